@@ -1,0 +1,14 @@
+pub mod Cuts
+pub mod Rows
+pub mod Allowed
+pub mod Fronts
+pub mod Steps
+pub mod Listings
+pub mod Readings
+pub mod Laid
+pub mod Joins
+pub mod Maps
+pub mod Encoded
+pub mod Columns
+pub mod Lawfulness
+pub mod Writings

@@ -1,0 +1,8 @@
+use mathlib.Core.Path.{_≡_}
+use mathlib.Core.Bool.{true}
+use lib.ListN.{take}
+use Rattle.message.specs.Lawful.{columns-lawful}
+use Rattle.message.proofs.writer.columns_lawful.Given as given
+
+abbrev pub Inv-loop-k : given.InvT-loop-k
+Inv-loop-k l = columns-lawful (take (l .k) (l .row)) ≡ true

@@ -1,0 +1,23 @@
+use mathlib.Core.Path.{_≡_, sym, _∙_}
+use Prim.Native.Nat.{_≤_, _<_}
+use native.Mathlib.Omega.{arith}
+use lib.ListN.{length}
+use Rattle.message.specs.Encode.{encode-all}
+use Rattle.message.proofs.Writings.{written-long, written-unlawful, written-short, written-laid}
+use Rattle.message.proofs.writer.write.Needs as need
+
+pub returns-then-records-gt-MAX-RECORDS : need.returns-then-records-gt-MAX-RECORDS
+returns-then-records-gt-MAX-RECORDS c = written-long (c .args .records .now) (c .args .buffer .now) (c .if-records-gt-MAX-RECORDS .taken)
+
+pub returns-in-Some : need.returns-in-Some
+returns-in-Some c =
+    written-unlawful (c .args .records .now) (c .args .buffer .now) (c .in-Some .index) (c .if-records-gt-MAX-RECORDS .left) (sym (c .in-Some .ensures tt))
+
+pub returns-then-buffer-length : need.returns-then-buffer-length
+returns-then-buffer-length c =
+    let l : length (c .args .buffer .now) < length (encode-all (c .args .records .now)) = omega arith in
+    written-short (c .args .records .now) (c .args .buffer .now) (c .if-records-gt-MAX-RECORDS .left) (sym (c .in-rest .ensures tt)) l
+
+pub returns : need.returns
+returns c =
+    written-laid (c .args .records .now) (c .args .buffer .now) (c .message-length-length .result) (c .put-records .last .buffer) (c .if-records-gt-MAX-RECORDS .left) (sym (c .in-rest .ensures tt)) (c .message-length-length .ensures) (c .if-buffer-length .left) (c .put-records .ensures)

@@ -1,0 +1,10 @@
+pub mod Bytes
+pub mod Refusal
+pub mod Decode
+pub mod Lawful
+pub mod Encode
+pub mod Buffer
+pub mod Reading
+pub mod Listed
+pub mod Writing
+pub mod Laws

@@ -1,0 +1,49 @@
+-- The number and the place of every refusal of the reader and of the writer.
+--
+--   Refusal         a refusal's number and place
+--   read-refusal    Torn 1, Map 2, Long 3, each at the first byte of the record that is refused
+--   write-refusal   Long 3 at 1,024; Map 2 at the index of the first unlawful record; Paper 8 at 0
+--   read-told       a reader's answer with its fault as number and place
+--   write-told      a writer's answer, likewise
+use Prim.Native.Nat.{ℕ}
+use Rattle.std.specs.declared.result.Result.{Result}
+use Rattle.std.specs.declared.result.Result.the-variants.{Ok, Err}
+use Rattle.message.specs.declared.fault.ReadFault.{ReadFault}
+use Rattle.message.specs.declared.fault.ReadFault.the-variants as reads
+use Rattle.message.specs.declared.fault.WriteFault.{WriteFault}
+use Rattle.message.specs.declared.fault.WriteFault.the-variants as writes
+use Rattle.message.specs.declared.fault.RewriteFault.{RewriteFault}
+use Rattle.message.specs.declared.fault.RewriteFault.the-variants as rewrites
+
+pub record Refusal : Type 0 where
+  pub number : ℕ
+  pub place : ℕ
+
+abbrev pub refusal : ℕ → ℕ → Refusal
+refusal n p = record { number = n; place = p }
+
+abbrev pub read-refusal : ReadFault → Refusal
+read-refusal (reads.Torn at) = refusal 1 at
+read-refusal (reads.Map at) = refusal 2 at
+read-refusal (reads.Long at) = refusal 3 at
+
+abbrev pub write-refusal : WriteFault → Refusal
+write-refusal writes.Long = refusal 3 1024
+write-refusal (writes.Map index) = refusal 2 index
+write-refusal writes.Paper = refusal 8 0
+
+abbrev pub rewrite-refusal : RewriteFault → Refusal
+rewrite-refusal (rewrites.Read fault) = read-refusal fault
+rewrite-refusal (rewrites.Write fault) = write-refusal fault
+
+abbrev pub read-told : {X : Type 0} → Result X ReadFault → Result X Refusal
+read-told (Ok x) = Ok x
+read-told (Err fault) = Err (read-refusal fault)
+
+abbrev pub write-told : {X : Type 0} → Result X WriteFault → Result X Refusal
+write-told (Ok x) = Ok x
+write-told (Err fault) = Err (write-refusal fault)
+
+abbrev pub rewrite-told : {X : Type 0} → Result X RewriteFault → Result X Refusal
+rewrite-told (Ok x) = Ok x
+rewrite-told (Err fault) = Err (rewrite-refusal fault)

@@ -1,0 +1,82 @@
+ghost use mathlib.Core.Path.{_≡_};
+ghost use Prim.Native.Nat.{_≤_};
+ghost use lib.ListN.{length};
+ghost use Rattle.message.specs.Refusal.{write-told};
+ghost use Rattle.message.specs.Lawful.{columns-lawful as columnsLawful, lawful as lawfulRecord, first-unlawful as firstUnlawful};
+ghost use Rattle.message.specs.Buffer.{laid};
+ghost use Rattle.message.specs.Encode.{encode-all};
+ghost use Rattle.message.specs.Writing.{written};
+use crate::fault::WriteFault;
+use crate::put::put_record;
+use crate::put::record_length;
+use crate::record::MAX_RECORDS;
+use crate::record::Record;
+
+fn columns_lawful(row: &[i32; 8]) -> bool
+    ensures { λ r. ⌜ r ≡ columnsLawful (now (row .entry)) ⌝ }
+{
+    for k in 0..8 {
+        if row[k] == i32::MIN {
+            return false;
+        }
+    }
+    true
+}
+
+fn lawful(record: &Record) -> bool
+    ensures { λ r. ⌜ r ≡ lawfulRecord (now («record» .entry)) ⌝ }
+{
+    columns_lawful(&record.row) && record.count >= 1 && record.node <= 15
+}
+
+fn first_unlawful(records: &[Record]) -> Option<usize>
+    ensures { λ r. ⌜ r ≡ firstUnlawful (now (records .entry)) ⌝ }
+{
+    for i in 0..records.len() {
+        if !lawful(&records[i]) {
+            return Some(i);
+        }
+    }
+    None
+}
+
+// How many bytes the records have.
+fn message_length(records: &[Record]) -> usize
+    requires { ⌜ length (now records) ≤ 1024 ⌝ }
+    ensures { λ r. ⌜ r ≡ length (encode-all (now (records .entry))) ⌝ }
+{
+    let mut total = 0;
+    for i in 0..records.len() {
+        total += record_length(&records[i]);
+    }
+    total
+}
+
+fn put_records(buffer: &mut [u8], records: &[Record])
+    requires { ⌜ length (encode-all (now records)) ≤ length (now buffer) ⌝ }
+    ensures { λ _. ⌜ now (buffer .exit) ≡ laid (now (buffer .entry)) 0 (encode-all (now (records .entry))) ⌝ }
+{
+    let mut at = 0;
+    for i in 0..records.len() {
+        at = put_record(buffer, at, &records[i]);
+    }
+}
+
+// Writes the records into the front of the buffer and answers the message's length.
+// Bytes behind the message stay, and a refusal leaves the whole buffer as it was.
+pub fn write(records: &[Record], buffer: &mut [u8]) -> Result<usize, WriteFault>
+    ensures { λ r. ⌜ (write-told r, now (buffer .exit)) ≡ written (now (records .entry)) (now (buffer .entry)) ⌝ }
+{
+    if records.len() > MAX_RECORDS {
+        return Err(WriteFault::Long);
+    }
+    if let Some(index) = first_unlawful(records) {
+        return Err(WriteFault::Map { index });
+    }
+    let length = message_length(records);
+    if buffer.len() < length {
+        return Err(WriteFault::Paper);
+    }
+    put_records(buffer, records);
+    Ok(length)
+}
