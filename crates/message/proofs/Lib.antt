@@ -1,6 +1,11 @@
 pub mod Cuts
 pub mod Rows
 pub mod Allowed
+pub mod Numerals
+pub mod Codec
+pub mod Decoded
+pub mod Trips
+pub mod Cursors
 pub mod Fronts
 pub mod Steps
 pub mod Listings

@@ -7,4 +7,5 @@ pub mod Buffer
 pub mod Reading
 pub mod Listed
 pub mod Writing
+pub mod RoundTrip
 pub mod Laws
