@@ -15,7 +15,8 @@ use Rattle.std.proofs.shelf.Lists.{take-more, drop-more, take-append-drop}
 use Rattle.std.proofs.shelf.Signed.{ints}
 use Rattle.std.proofs.shelf.Tests.{eq-eqb, ne-eqb}
 use Rattle.message.specs.declared.record.Record.{Record}
-use Rattle.message.specs.Lawful.{column-lawful, columns-lawful, lawful, first-unlawful}
+use Rattle.std.specs.shelf.Lists.{All}
+use Rattle.message.specs.Lawful.{column-lawful, columns-lawful, lawful, first-unlawful, In-range}
 
 pub smallest-by-bits : (v : ℤ) → SFits w32 v → ofZ w32 v ≡ 2147483648 → column-lawful v ≡ false
 smallest-by-bits (pos n) f e = absurd (omega (arith, ints))
@@ -59,3 +60,6 @@ module _ (rs : List Record) (i : ℕ) (d : Record) (lt : i < length rs) where
 
   pub unlawful-later : lawful (getD rs i d) ≡ true → from i (first-unlawful (drop i rs)) ≡ from (i + 1) (first-unlawful (drop (i + 1) rs))
   unlawful-later e = ap (λ l. from i (first-unlawful l)) (drop-more rs i d lt) ∙ rw e (from-next i (first-unlawful (drop (i + 1) rs)))
+
+pub in-range : (r : Record) → length (r .row) ≡ 8 → All (SFits w32) (r .row) → r .count < 65536 → In-range r
+in-range r eight fits small = record { eight = eight; columns = fits; count = small }

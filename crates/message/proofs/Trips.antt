@@ -26,7 +26,8 @@ use Rattle.message.specs.Writing.{Written, filled, unless-unlawful, written}
 use Rattle.message.specs.Laws.{Read-then-written, Written-then-read, One-to-one, Cursor-reads}
 use Rattle.message.proofs.Codec.{decode-encode}
 use Rattle.message.proofs.Decoded.{decode-was, Was}
-use Rattle.message.proofs.Writings.{written-whole}
+use Rattle.message.specs.RoundTrip.{unless-refused, rewritten, same-records, reread}
+use Rattle.message.proofs.Writings.{written-whole, written-lawfully}
 
 -- what a message read without a refusal was
 pub record Whole (n : ℕ) (xs : List ℕ) (rs : List Record) : Type 0 where
@@ -99,6 +100,7 @@ pub record Accepted (rs : List Record) (n : ℕ) (buffer after : List ℕ) : Typ
   pub law : first-unlawful rs ≡ None
   pub length-is : n ≡ length (encode-all rs)
   pub after-is : after ≡ encode-all rs ++ drop (length (encode-all rs)) buffer
+  pub room : length (encode-all rs) ≤ length buffer
 
 pub accepted : (rs : List Record) (n : ℕ) (buffer after : List ℕ) → written rs buffer ≡ (Ok n, after) → Accepted rs n buffer after
 unfolding written
@@ -106,14 +108,14 @@ accepted rs n buffer after e = long (ltb 1024 (length rs)) refl e
   where
     never : (f : Refusal) → _≡_ {A = Written} (Err f, buffer) (Ok n, after) → ⊥
     never f e = let g = ap (λ (x : Written). x .0) e in let z : _≡_ {A = ℕ} 0 1 = cc in omega arith
-    short : length rs ≤ 1024 → first-unlawful rs ≡ None → (t : Bool) → _≡_ {A = Written} (cond {A = Written} t (Err (refusal 8 0), buffer) (Ok (length (encode-all rs)), encode-all rs ++ drop (length (encode-all rs)) buffer)) (Ok n, after) → Accepted rs n buffer after
-    short few law true e = absurd (never (refusal 8 0) e)
-    short few law false e =
+    short : length rs ≤ 1024 → first-unlawful rs ≡ None → (t : Bool) → ltb (length buffer) (length (encode-all rs)) ≡ t → _≡_ {A = Written} (cond {A = Written} t (Err (refusal 8 0), buffer) (Ok (length (encode-all rs)), encode-all rs ++ drop (length (encode-all rs)) buffer)) (Ok n, after) → Accepted rs n buffer after
+    short few law true l e = absurd (never (refusal 8 0) e)
+    short few law false l e =
         let g = ap (λ (x : Written). x .0) e in
-        record { few = few; law = law; length-is = cc; after-is = sym (ap (λ (x : Written). x .1) e) }
+        record { few = few; law = law; length-is = cc; after-is = sym (ap (λ (x : Written). x .1) e); room = ltb-false (length buffer) (length (encode-all rs)) l }
     unlawful : length rs ≤ 1024 → (o : Option ℕ) → first-unlawful rs ≡ o → unless-unlawful o (encode-all rs) buffer ≡ (Ok n, after) → Accepted rs n buffer after
     unlawful few (Some i) l e = absurd (never (refusal 2 i) e)
-    unlawful few None l e = short few l (ltb (length buffer) (length (encode-all rs))) e
+    unlawful few None l e = short few l (ltb (length buffer) (length (encode-all rs))) refl e
     long : (t : Bool) → ltb 1024 (length rs) ≡ t → _≡_ {A = Written} (cond {A = Written} t (Err (refusal 3 1024), buffer) (unless-unlawful (first-unlawful rs) (encode-all rs) buffer)) (Ok n, after) → Accepted rs n buffer after
     long true l e = absurd (never (refusal 3 1024) e)
     long false l e = unlawful (ltb-false 1024 (length rs) l) (first-unlawful rs) refl e
@@ -130,3 +132,23 @@ one-to-one rs ss hr hs lr ls fr fs e =
     let b = read-back 1024 0 ss hs ls fs in
     let c : Ok rs ≡ Ok ss = sym a ∙ (ap (λ l. records-of (reading l)) e ∙ b) in
     cc
+
+-- the records of a message, written again
+pub rewritten-is : (message buffer : List ℕ) (rs : List Record) → Bytes message → Ok rs ≡ records-of (reading message) → written rs buffer ≡ rewritten message buffer
+unfolding rewritten
+rewritten-is message buffer rs h e =
+    let w = whole 1024 0 message rs h (sym e) in
+    written-lawfully rs buffer (w .few) (w .law) ∙ (ap (λ l. filled l buffer) (w .bytes) ∙ ap (λ o. unless-refused o message buffer) e)
+
+pub room-of : (rs : List Record) (n : ℕ) (buffer after : List ℕ) → written rs buffer ≡ (Ok n, after) → n ≤ length after
+room-of rs n buffer after e =
+    let a = accepted rs n buffer after e in
+    omega (arith, ap length (a .after-is), length-append (encode-all rs) (drop (length (encode-all rs)) buffer), a .length-is)
+
+-- records that were written, read again
+pub reread-is : (rs : List Record) (n : ℕ) (buffer after : List ℕ) (o : Result (List Record) Refusal) → All In-range rs → written rs buffer ≡ (Ok n, after) → o ≡ records-of (reading (take (n - 0) after)) → (o, after) ≡ reread rs buffer
+unfolding reread
+reread-is rs n buffer after o h e f =
+    let k : n - 0 ≡ n = omega arith in
+    let g : o ≡ Ok rs = f ∙ (ap (λ m. records-of (reading (take m after))) k ∙ written-then-read rs n buffer after h e) in
+    ap (λ (x : Result (List Record) Refusal). (x, after)) g ∙ sym (ap (same-records rs) e)

@@ -1,8 +1,14 @@
 ghost use mathlib.Core.Path.{_≡_};
+ghost use mathlib.Core.Bool.{true};
+ghost use mir.Val.{SFits};
+ghost use mir.Syntax.{w32};
 ghost use Prim.Native.Nat.{_≤_};
 ghost use lib.ListN.{length};
+ghost use Rattle.std.specs.Options.{Cases as BySome};
+ghost use Rattle.std.specs.Vec.{made};
+ghost use Rattle.std.specs.shelf.Lists.{All};
 ghost use Rattle.message.specs.Refusal.{write-told};
-ghost use Rattle.message.specs.Lawful.{columns-lawful as columnsLawful, lawful as lawfulRecord, first-unlawful as firstUnlawful};
+ghost use Rattle.message.specs.Lawful.{columns-lawful as columnsLawful, lawful as lawfulRecord, first-unlawful as firstUnlawful, In-range};
 ghost use Rattle.message.specs.Buffer.{laid};
 ghost use Rattle.message.specs.Encode.{encode-all};
 ghost use Rattle.message.specs.Writing.{written};
@@ -13,7 +19,8 @@ use crate::record::MAX_RECORDS;
 use crate::record::Record;
 
 fn columns_lawful(row: &[i32; 8]) -> bool
-    ensures { λ r. ⌜ r ≡ columnsLawful (now (row .entry)) ⌝ }
+    ensures is { λ r. ⌜ r ≡ columnsLawful (now (row .entry)) ⌝ }
+    ensures range { λ r. ⌜ (r ≡ true → All (SFits w32) (now (row .entry))) ⌝ }
 {
     for k in 0..8 {
         if row[k] == i32::MIN {
@@ -24,13 +31,18 @@ fn columns_lawful(row: &[i32; 8]) -> bool
 }
 
 fn lawful(record: &Record) -> bool
-    ensures { λ r. ⌜ r ≡ lawfulRecord (now («record» .entry)) ⌝ }
+    ensures is { λ r. ⌜ r ≡ lawfulRecord (now («record» .entry)) ⌝ }
+    ensures range { λ r. ⌜ (r ≡ true → In-range (now («record» .entry))) ⌝ }
 {
-    columns_lawful(&record.row) && record.count >= 1 && record.node <= 15
+    if record.count == 0 || record.node > 15 {
+        return false;
+    }
+    columns_lawful(&record.row)
 }
 
 fn first_unlawful(records: &[Record]) -> Option<usize>
-    ensures { λ r. ⌜ r ≡ firstUnlawful (now (records .entry)) ⌝ }
+    ensures is { λ r. ⌜ r ≡ firstUnlawful (now (records .entry)) ⌝ }
+    ensures range { λ r. ⌜ BySome r (All In-range (now (records .entry))) (λ _. Unit {0}) ⌝ }
 {
     for i in 0..records.len() {
         if !lawful(&records[i]) {
@@ -65,7 +77,8 @@ fn put_records(buffer: &mut [u8], records: &[Record])
 // Writes the records into the front of the buffer and answers the message's length.
 // Bytes behind the message stay, and a refusal leaves the whole buffer as it was.
 pub fn write(records: &[Record], buffer: &mut [u8]) -> Result<usize, WriteFault>
-    ensures { λ r. ⌜ (write-told r, now (buffer .exit)) ≡ written (now (records .entry)) (now (buffer .entry)) ⌝ }
+    ensures answer { λ r. ⌜ (write-told r, now (buffer .exit)) ≡ written (now (records .entry)) (now (buffer .entry)) ⌝ }
+    ensures range { λ r. ⌜ made r (λ _. All In-range (now (records .entry))) ⌝ }
 {
     if records.len() > MAX_RECORDS {
         return Err(WriteFault::Long);

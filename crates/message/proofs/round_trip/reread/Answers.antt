@@ -1,0 +1,40 @@
+use borrow.Author.Needs.{needs}
+use mathlib.Core.Path.{_≡_, sym, ap, _∙_}
+use mathlib.Core.List.{List}
+use Prim.Native.Nat.{ℕ, _-_, _≤_}
+use native.Mathlib.Omega.{arith}
+use lib.ListN.{length, take}
+use Rattle.std.specs.declared.result.Result.{Result}
+use Rattle.std.specs.declared.result.Result.the-variants.{Ok, Err}
+use Rattle.std.proofs.shelf.Results.{err-from-errBy}
+use Rattle.message.specs.declared.record.Record.{Record}
+use Rattle.message.specs.Refusal.{Refusal, read-refusal, write-refusal}
+use Rattle.message.specs.Listed.{items}
+use Rattle.message.specs.Reading.{reading, records-of}
+use Rattle.message.specs.Writing.{Written, written}
+use Rattle.message.specs.RoundTrip.{same-records, reread}
+use Rattle.message.proofs.Trips.{room-of, reread-is}
+use Rattle.message.proofs.round_trip.reread.Needs as need
+
+pub returns-in-Break-length : need.returns-in-Break-length
+unfolding reread
+returns-in-Break-length c =
+    let p = err-from-errBy (c .from-residual .result) (c .from-residual .ensures .1) in
+    let b = ap (same-records (c .args .records .now)) (c .in-Break-length .ensures tt .answer) in
+    rw (p .1, p .2) b
+
+pub part-read-end : need.part-read-end
+part-read-end c =
+    let l : c .in-Continue-length .length ≤ length (c .write .last .buffer) = room-of (c .args .records .now) (c .in-Continue-length .length) (c .args .buffer .now) (c .write .last .buffer) (sym (c .in-Continue-length .ensures tt .answer)) in
+    search needs
+
+pub returns-in-Break-list : need.returns-in-Break-list
+returns-in-Break-list c =
+    let p = err-from-errBy (c .from-residual-in-Break-list .result) (c .from-residual-in-Break-list .ensures .1) in
+    let f = c .in-Continue-length .ensures tt in
+    rw (p .1, p .2) (reread-is (c .args .records .now) (c .in-Continue-length .length) (c .args .buffer .now) (c .write .last .buffer) (Err (read-refusal (c .in-Break-list .field-0 .0))) (f .range) (sym (f .answer)) (c .in-Break-list .ensures tt))
+
+pub returns : need.returns
+returns c =
+    let f = c .in-Continue-length .ensures tt in
+    reread-is (c .args .records .now) (c .in-Continue-length .length) (c .args .buffer .now) (c .write .last .buffer) (Ok (items (c .in-Continue-list .list))) (f .range) (sym (f .answer)) (c .in-Continue-list .ensures tt)
