@@ -25,8 +25,15 @@ fn show_rewritten(rt: &LibcRuntime, number: usize, message: &[u8]) -> Result<(),
         return Ok(());
     };
     let end = length.min(buffer.len());
-    let verdict = if &buffer[0..end] == message { "the same bytes" } else { "other bytes" };
-    println!(rt, "message {number} written again: {length} bytes, {verdict}")?;
+    let verdict = if &buffer[0..end] == message {
+        "the same bytes"
+    } else {
+        "other bytes"
+    };
+    println!(
+        rt,
+        "message {number} written again: {length} bytes, {verdict}"
+    )?;
     Ok(())
 }
 
@@ -41,7 +48,12 @@ fn show_message(rt: &LibcRuntime, number: usize, message: &[u8]) -> Result<(), A
             show_rewritten(rt, number, message)
         }
         Err(fault) => {
-            println!(rt, "message {number} refused {} at {}", fault.number(), fault.place())?;
+            println!(
+                rt,
+                "message {number} refused {} at {}",
+                fault.number(),
+                fault.place()
+            )?;
             Ok(())
         }
     }

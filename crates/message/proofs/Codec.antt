@@ -143,6 +143,7 @@ module _ (r : Record) (range : In-range r) (law : lawful r ≡ true) where
     where
       one : 1 ≤ r .count
       one = leb-true 1 (r .count) (and-parts (leb 1 (r .count)) (leb (r .node) 15) (parts .1) .0)
+
       on : (t : Bool) → eqb (r .count) 1 ≡ t → (not (not t) || leb 2 (r .count)) ≡ true
       on true e = refl
       on false e = let n : r .count ≡ 1 → ⊥ = eqb-false (r .count) 1 e in le-leb 2 (r .count) (omega (arith, one))
@@ -152,6 +153,7 @@ module _ (r : Record) (range : In-range r) (law : lawful r ≡ true) where
     where
       small : leb (r .node) 15 ≡ true
       small = and-parts (leb 1 (r .count)) (leb (r .node) 15) (parts .1) .1
+
       on : (t : Bool) → eqb (r .node) 0 ≡ t → (not (not t) || (leb 1 (r .node) && leb (r .node) 15)) ≡ true
       on true e = refl
       on false e = let n : r .node ≡ 0 → ⊥ = eqb-false (r .node) 0 e in and-from (leb 1 (r .node)) (leb (r .node) 15) (le-leb 1 (r .node) (omega arith)) small

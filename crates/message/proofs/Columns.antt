@@ -30,7 +30,6 @@ pub column-length : (v : ℤ) (b : Bool) → is-zero v ≡ b → length (column-
 column-length v true e = rw e refl
 column-length v false e = rw e refl
 
-
 -- the map's columns, one more
 module _ (row : List ℤ) (k : ℕ) (lt : k < length row) (m : ℕ) (was : m ≡ bits-value (map (λ v. not (is-zero v)) (take k row))) (under : m < 2 ^ k) where
   pushed : bits-value (map (λ v. not (is-zero v)) (take (k + 1) row)) ≡ m + bit-value (not (is-zero (getD row k (pos 0)))) * 2 ^ k

@@ -12,7 +12,7 @@ use Rattle.std.specs.declared.option.Option.the-variants.{Some, None}
 use Rattle.std.specs.declared.result.Result.{Result}
 use Rattle.std.specs.declared.result.Result.the-variants.{Ok, Err}
 use Rattle.message.specs.declared.record.Record.{Record}
-use Rattle.message.specs.Refusal.{Refusal}
+use Rattle.bag.specs.Refusal.{Refusal}
 use Rattle.message.specs.Reading.{Reading, ends, refused, item, reading, answer-at, Step, step, stand}
 use Rattle.message.specs.Laws.{Cursor-reads}
 use Rattle.message.proofs.Readings.{onward, At-end, Refused, Further, next-is}
@@ -25,8 +25,8 @@ module _ (bytes : List ℕ) (at seen : ℕ) where
       ⊎-elim
       (λ (v : At-end bytes at seen). ap (λ x. answer-at x 0) (v .rest) ∙ sym (ap (λ (x : Step). x .0) (v .stepped)))
       (⊎-elim
-        (λ (v : Refused bytes at seen). ap (λ x. answer-at x 0) (v .rest) ∙ sym (ap (λ (x : Step). x .0) (v .stepped)))
-        (λ (v : Further bytes at seen). ap (λ x. answer-at x 0) (v .rest) ∙ sym (ap (λ (x : Step). x .0) (v .stepped))))
+      (λ (v : Refused bytes at seen). ap (λ x. answer-at x 0) (v .rest) ∙ sym (ap (λ (x : Step). x .0) (v .stepped)))
+      (λ (v : Further bytes at seen). ap (λ x. answer-at x 0) (v .rest) ∙ sym (ap (λ (x : Step). x .0) (v .stepped))))
       (next-is bytes at seen)
 
   others : (i : ℕ) → answer-at (onward bytes at seen) (suc i) ≡ answer-at (onward bytes (step bytes at seen .1) (step bytes at seen .2)) i
@@ -34,12 +34,12 @@ module _ (bytes : List ℕ) (at seen : ℕ) where
   others i =
       ⊎-elim
       (λ (v : At-end bytes at seen).
-        ap (λ x. answer-at x (suc i)) (v .rest) ∙ (sym (ap (λ x. answer-at x i) (v .rest)) ∙ sym (ap (λ (x : Step). answer-at (onward bytes (x .1) (x .2)) i) (v .stepped))))
+      ap (λ x. answer-at x (suc i)) (v .rest) ∙ (sym (ap (λ x. answer-at x i) (v .rest)) ∙ sym (ap (λ (x : Step). answer-at (onward bytes (x .1) (x .2)) i) (v .stepped))))
       (⊎-elim
-        (λ (v : Refused bytes at seen).
-          ap (λ x. answer-at x (suc i)) (v .rest) ∙ (sym (ap (λ x. answer-at x i) (v .rest)) ∙ sym (ap (λ (x : Step). answer-at (onward bytes (x .1) (x .2)) i) (v .stepped))))
-        (λ (v : Further bytes at seen).
-          ap (λ x. answer-at x (suc i)) (v .rest) ∙ sym (ap (λ (x : Step). answer-at (onward bytes (x .1) (x .2)) i) (v .stepped))))
+      (λ (v : Refused bytes at seen).
+      ap (λ x. answer-at x (suc i)) (v .rest) ∙ (sym (ap (λ x. answer-at x i) (v .rest)) ∙ sym (ap (λ (x : Step). answer-at (onward bytes (x .1) (x .2)) i) (v .stepped))))
+      (λ (v : Further bytes at seen).
+      ap (λ x. answer-at x (suc i)) (v .rest) ∙ sym (ap (λ (x : Step). answer-at (onward bytes (x .1) (x .2)) i) (v .stepped))))
       (next-is bytes at seen)
 
 -- after i steps what is still to be read answers what the message answers from its i-th answer on

@@ -19,7 +19,7 @@ use Rattle.std.specs.declared.option.Option.the-variants.{Some, None}
 use Rattle.std.specs.declared.result.Result.{Result}
 use Rattle.std.specs.declared.result.Result.the-variants.{Ok, Err}
 use Rattle.message.specs.declared.record.Record.{Record}
-use Rattle.message.specs.Refusal.{Refusal, refusal}
+use Rattle.bag.specs.Refusal.{Refusal, refusal}
 use Rattle.message.specs.Bytes.{first-four, first-two, first-one, in-four, in-two, Bytes}
 use Rattle.message.specs.Decode.{then, bit, column-field, count-field, node-field, columns, fields, column-allowed, columns-allowed, allowed, judged, behind-map, decode}
 use Rattle.message.specs.Lawful.{column-lawful, columns-lawful, lawful}
@@ -65,7 +65,8 @@ column-was true (a ∷ b ∷ c ∷ d ∷ rest) h = λ e.
       split = ap (λ l. l ++ rest) (sym (four-written a b c d (h .0) (h .1 .0) (h .1 .1 .0) (h .1 .1 .1 .0))) ∙ sym (ap (λ t. cond t [] (in-four v) ++ rest) n);
       bit-is = sym (ap not n);
       law = plain-lawful v e;
-      left = h .1 .1 .1 .1 }
+      left = h .1 .1 .1 .1;
+    }
 
 abbrev count-absent : ℕ → Bool
 count-absent n = eqb n 1
@@ -85,7 +86,8 @@ count-was true (a ∷ b ∷ rest) h = λ e.
       split = ap (λ l. l ++ rest) (sym (two-written a b (h .0) (h .1 .0))) ∙ sym (ap (λ t. cond t [] (in-two v) ++ rest) n);
       bit-is = sym (ap not n);
       law = le-leb 1 v (omega arith);
-      left = h .1 .1 }
+      left = h .1 .1;
+    }
 
 node-was : (b : Bool) (xs : List ℕ) → Bytes xs → Fields b node-bytes node-absent (λ n. leb 1 n && leb n 15) (λ n. leb n 15) xs (node-field b xs)
 node-was false xs h = λ e. record { split = refl; bit-is = refl; law = refl; left = h }
@@ -98,7 +100,8 @@ node-was true (a ∷ rest) h = λ e.
       split = sym (ap (λ t. cond t [] (a ∷ []) ++ rest) n);
       bit-is = sym (ap not n);
       law = p .1;
-      left = h .1 }
+      left = h .1;
+    }
 
 -- the first k columns that were read
 pub record Columns (map k : ℕ) (xs : List ℕ) (row : List ℤ) (rest : List ℕ) : Type 0 where
@@ -138,7 +141,8 @@ last-column map k xs row rest e =
       value = b .0 .0;
       before = a .1;
       field = b .1 ∙ ap (λ l. Some (b .0 .0, l)) t;
-      row-is = sym (ap (λ (x : List ℤ × List ℕ). x .0) s) }
+      row-is = sym (ap (λ (x : List ℤ × List ℕ). x .0) s);
+    }
 
 columns-long : (map k : ℕ) (xs : List ℕ) (row : List ℤ) (rest : List ℕ) → columns k map xs ≡ Some (row, rest) → length row ≡ k
 unfolding columns
@@ -170,7 +174,8 @@ columns-was map zero xs row rest h e a =
       split = t ∙ sym (ap (λ l. joined column-bytes l ++ rest) r);
       bits = λ j l. absurd (omega arith);
       law = ap columns-lawful r;
-      left = subst Bytes t h }
+      left = subst Bytes t h;
+    }
 columns-was map (suc k) xs row rest h e a =
     let l = last-column map k xs row rest e in
     let front = l .front in
@@ -185,13 +190,14 @@ columns-was map (suc k) xs row rest h e a =
     record {
       long = ap length (l .row-is) ∙ (length-push front v ∙ omega arith);
       split =
-        before .split
-        ∙ (ap (λ m. joined column-bytes front ++ m) (f .split)
-        ∙ (sym (append-assoc (joined column-bytes front) (column-bytes v) rest)
-        ∙ ap (λ m. m ++ rest) (ap (λ m. joined column-bytes front ++ m) (sym (append-nil (column-bytes v))) ∙ (sym (joined-append column-bytes front (v ∷ [])) ∙ sym (ap (joined column-bytes) (l .row-is))))));
+          before .split
+          ∙ (ap (λ m. joined column-bytes front ++ m) (f .split)
+          ∙ (sym (append-assoc (joined column-bytes front) (column-bytes v) rest)
+          ∙ ap (λ m. m ++ rest) (ap (λ m. joined column-bytes front ++ m) (sym (append-nil (column-bytes v))) ∙ (sym (joined-append column-bytes front (v ∷ [])) ∙ sym (ap (joined column-bytes) (l .row-is))))));
       bits = bits-of front v long (l .row-is) (before .bits) (f .bit-is);
       law = ap columns-lawful (l .row-is) ∙ (lawful-append front (v ∷ []) ∙ and-from (columns-lawful front) (column-lawful v && true) (before .law) (and-from (column-lawful v) true (f .law) refl));
-      left = f .left }
+      left = f .left;
+    }
   where
     bits-of : (front : List ℤ) (v : ℤ) → length front ≡ k → row ≡ front ++ v ∷ [] → ((j : ℕ) → j < k → bit map j ≡ not (is-zero (getD front j (pos 0)))) → bit map k ≡ not (is-zero v) → (j : ℕ) → j < suc k → bit map j ≡ not (is-zero (getD row j (pos 0)))
     bits-of front v long r low top j h =
@@ -208,27 +214,32 @@ map-was r m eight under low count node take =
   where
     set : List Bool
     set = map (λ (v : ℤ). not (is-zero v)) (r .row)
+
     high : List Bool
     high = not (eqb (r .count) 1) ∷ not (eqb (r .node) 0) ∷ r .take ∷ []
+
     eight-bits : length (map (λ (v : ℤ). not (is-zero v)) (r .row)) ≡ 8
     eight-bits = length-map (r .row) (λ (v : ℤ). not (is-zero v)) ∙ eight
+
     eleven : length (map-bits r) ≡ 11
     eleven = length-append (map (λ (v : ℤ). not (is-zero v)) (r .row)) (not (eqb (r .count) 1) ∷ not (eqb (r .node) 0) ∷ r .take ∷ []) ∙ omega (arith, eight-bits)
+
     high-each : (i : ℕ) → i < 3 → getD (not (eqb (r .count) 1) ∷ not (eqb (r .node) 0) ∷ r .take ∷ []) i false ≡ bit m (8 + i)
     high-each zero h = sym count
     high-each (suc zero) h = sym node
     high-each (suc (suc zero)) h = sym take
     high-each (suc (suc (suc i))) h = absurd (omega arith)
+
     at-each : (k : ℕ) → k < length (map-bits r) → getD (map-bits r) k false ≡ bit m k
     at-each k h =
         ⊎-elim
         (λ l.
-          getD-append-left (map (λ (v : ℤ). not (is-zero v)) (r .row)) (not (eqb (r .count) 1) ∷ not (eqb (r .node) 0) ∷ r .take ∷ []) false k (omega (arith, eight-bits))
-          ∙ (getD-map (λ (v : ℤ). not (is-zero v)) (r .row) k (pos 0) false (omega arith) ∙ sym (low k l)))
+        getD-append-left (map (λ (v : ℤ). not (is-zero v)) (r .row)) (not (eqb (r .count) 1) ∷ not (eqb (r .node) 0) ∷ r .take ∷ []) false k (omega (arith, eight-bits))
+        ∙ (getD-map (λ (v : ℤ). not (is-zero v)) (r .row) k (pos 0) false (omega arith) ∙ sym (low k l)))
         (λ l.
-          let e : 8 + (k - 8) ≡ k = omega arith in
-          getD-append-right (map (λ (v : ℤ). not (is-zero v)) (r .row)) (not (eqb (r .count) 1) ∷ not (eqb (r .node) 0) ∷ r .take ∷ []) 8 k false eight-bits l
-          ∙ (high-each (k - 8) (omega (arith, eleven)) ∙ ap (bit m) e))
+        let e : 8 + (k - 8) ≡ k = omega arith in
+        getD-append-right (map (λ (v : ℤ). not (is-zero v)) (r .row)) (not (eqb (r .count) 1) ∷ not (eqb (r .node) 0) ∷ r .take ∷ []) 8 k false eight-bits l
+        ∙ (high-each (k - 8) (omega (arith, eleven)) ∙ ap (bit m) e))
         (cases-lt k 8)
 
 -- a record that was read: its bytes, its law, and what is left
@@ -263,7 +274,8 @@ parts m xs r rest e =
       columns-read = a .1 ∙ ap (λ l. Some (l, a .0 .1)) row;
       count-read = b .1 ∙ ap (λ n. Some (n, b .0 .1)) count;
       node-read = c .1 ∙ (ap (λ n. Some (n, c .0 .1)) node ∙ ap (λ l. Some (r .node, l)) end);
-      take-read = ap (λ (x : Record × List ℕ). x .0 .take) s }
+      take-read = ap (λ (x : Record × List ℕ). x .0 .take) s;
+    }
 
 fields-was : (a b : ℕ) (xs : List ℕ) (r : Record) (rest : List ℕ) → a < 256 → b < 256 → Bytes xs → fields (a * 256 + b) xs ≡ Some (r, rest) → allowed (a * 256 + b) r ≡ true → Was (a ∷ b ∷ xs) r rest
 unfolding encode
@@ -275,9 +287,9 @@ fields-was a b xs r rest ha hb h e fine =
     let f3 = and-parts (not (bit m 8) || leb 2 (r .count)) (not (bit m 9) || (leb 1 (r .node) && leb (r .node) 15)) (f2 .1) in
     let cs = columns-was m 8 xs (r .row) (p .behind-columns) h (p .columns-read) (f2 .0) in
     let cn : Field (bit m 8) count-bytes count-absent (leb 1) (p .behind-columns) (r .count) (p .behind-count) =
-      subst (Fields (bit m 8) count-bytes count-absent (leb 2) (leb 1) (p .behind-columns)) (p .count-read) (count-was (bit m 8) (p .behind-columns) (cs .left)) (f3 .0) in
+    subst (Fields (bit m 8) count-bytes count-absent (leb 2) (leb 1) (p .behind-columns)) (p .count-read) (count-was (bit m 8) (p .behind-columns) (cs .left)) (f3 .0) in
     let nd : Field (bit m 9) node-bytes node-absent (λ n. leb n 15) (p .behind-count) (r .node) rest =
-      subst (Fields (bit m 9) node-bytes node-absent (λ n. leb 1 n && leb n 15) (λ n. leb n 15) (p .behind-count)) (p .node-read) (node-was (bit m 9) (p .behind-count) (cn .left)) (f3 .1) in
+    subst (Fields (bit m 9) node-bytes node-absent (λ n. leb 1 n && leb n 15) (λ n. leb n 15) (p .behind-count)) (p .node-read) (node-was (bit m 9) (p .behind-count) (cn .left)) (f3 .1) in
     let mp : map-of r ≡ m = map-was r m (cs .long) (ltb-true m 2048 (f1 .0)) (cs .bits) (cn .bit-is) (nd .bit-is) (p .take-read) in
     let two : in-two (map-of r) ≡ a ∷ b ∷ [] = ap in-two mp ∙ two-written a b ha hb in
     let x = joined column-bytes (r .row) in
@@ -288,7 +300,8 @@ fields-was a b xs r rest ha hb h e fine =
     record {
       split = ap (λ l. a ∷ b ∷ l) whole ∙ sym (s ∙ ap (λ l. l ++ (x ++ (y ++ (z ++ rest)))) two);
       law = and-from (columns-lawful (r .row)) (leb 1 (r .count) && leb (r .node) 15) (cs .law) (and-from (leb 1 (r .count)) (leb (r .node) 15) (cn .law) (nd .law));
-      left = nd .left }
+      left = nd .left;
+    }
 
 pub decode-was : (at : ℕ) (xs : List ℕ) (r : Record) (rest : List ℕ) → Bytes xs → decode at xs ≡ Ok (r, rest) → Was xs r rest
 decode-was at [] r rest h e = let z : _≡_ {A = ℕ} 0 1 = cc in absurd (omega arith)

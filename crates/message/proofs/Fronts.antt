@@ -12,7 +12,7 @@ use Rattle.std.specs.declared.option.Option.the-variants.{Some, None}
 use Rattle.std.specs.declared.result.Result.{Result}
 use Rattle.std.specs.declared.result.Result.the-variants.{Ok, Err}
 use Rattle.message.specs.declared.record.Record.{Record}
-use Rattle.message.specs.Refusal.{Refusal, refusal}
+use Rattle.bag.specs.Refusal.{Refusal, refusal}
 use Rattle.message.specs.Bytes.{first-two}
 use Rattle.message.specs.Decode.{then, bit, column-field, count-field, node-field, columns, fields, allowed, judged, behind-map, decode}
 
@@ -96,6 +96,7 @@ decode-left at (a ∷ b ∷ xs) r rest e = on (fields m xs) (fields-left m xs) e
   where
     m : ℕ
     m = a * 256 + b
+
     on : (o : Option (Record × List ℕ)) → Left 0 xs o → judged at m o ≡ Ok (r, rest) → Before 2 (a ∷ b ∷ xs) rest
     on None h e = let z : _≡_ {A = ℕ} 0 1 = cc in absurd (omega arith)
     on (Some got) h e = by (allowed m (got .0)) e

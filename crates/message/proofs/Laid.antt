@@ -30,7 +30,7 @@ module _ (buffer : List ℕ) (at : ℕ) (xs : List ℕ) (room : at + length xs �
       let t : take (at + length xs) (laid buffer at xs) ≡ take at buffer ++ xs = ap (take (at + length xs)) split ∙ take-at (take at buffer ++ xs) (drop (at + length xs) buffer) (at + length xs) front in
       let d : drop (at + length xs) (laid buffer at xs) ≡ drop (at + length xs) buffer = ap (drop (at + length xs)) split ∙ drop-at (take at buffer ++ xs) (drop (at + length xs) buffer) (at + length xs) front in
       let g : drop ((at + length xs) + length ys) (laid buffer at xs) ≡ drop (at + length (xs ++ ys)) buffer =
-        sym (drop-drop (length ys) (at + length xs) (laid buffer at xs)) ∙ (ap (drop (length ys)) d ∙ (drop-drop (length ys) (at + length xs) buffer ∙ ap (λ n. drop n buffer) (omega (arith, length-append xs ys)))) in
+      sym (drop-drop (length ys) (at + length xs) (laid buffer at xs)) ∙ (ap (drop (length ys)) d ∙ (drop-drop (length ys) (at + length xs) buffer ∙ ap (λ n. drop n buffer) (omega (arith, length-append xs ys)))) in
       ap (λ (l : List ℕ). l ++ (ys ++ drop ((at + length xs) + length ys) (laid buffer at xs))) t
       ∙ (ap (λ (l : List ℕ). (take at buffer ++ xs) ++ (ys ++ l)) g
       ∙ (append-assoc (take at buffer) xs (ys ++ drop (at + length (xs ++ ys)) buffer)

@@ -4,7 +4,7 @@ use mathlib.Core.List.{List, [], _∷_, _++_, append-assoc}
 use Rattle.std.specs.declared.result.Result.{Result}
 use Rattle.std.specs.declared.result.Result.the-variants.{Ok, Err}
 use Rattle.message.specs.declared.record.Record.{Record}
-use Rattle.message.specs.Refusal.{Refusal}
+use Rattle.bag.specs.Refusal.{Refusal}
 use Rattle.message.specs.Reading.{behind}
 
 abbrev pub prefixed : List Record → Result (List Record) Refusal → Result (List Record) Refusal

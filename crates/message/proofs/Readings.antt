@@ -15,7 +15,7 @@ use Rattle.std.specs.declared.option.Option.the-variants.{Some, None}
 use Rattle.std.specs.declared.result.Result.{Result}
 use Rattle.std.specs.declared.result.Result.the-variants.{Ok, Err}
 use Rattle.message.specs.declared.record.Record.{Record}
-use Rattle.message.specs.Refusal.{Refusal, refusal}
+use Rattle.bag.specs.Refusal.{Refusal, refusal}
 use Rattle.message.specs.Decode.{decode}
 use Rattle.message.specs.Reading.{Reading, ends, refused, item, proceed, reading-from, reading, records-of, answer-at, behind, Step, moved, step, stand}
 use Rattle.message.proofs.Fronts.{Before, decode-left, dropped}
@@ -64,7 +64,8 @@ module _ (bytes : List ℕ) (at seen : ℕ) where
       record {
         past = h;
         rest = ap (reading-from (1024 - seen) at) (drop-all at bytes h) ∙ reading-end (1024 - seen) at;
-        stepped = rw (le-leb (length bytes) at h) refl }
+        stepped = rw (le-leb (length bytes) at h) refl;
+      }
 
   module _ (h : at < length bytes) where
     some-left : 0 < length (drop at bytes)
@@ -75,7 +76,8 @@ module _ (bytes : List ℕ) (at seen : ℕ) where
         record {
           fault = refusal 3 at;
           rest = ap (λ n. reading-from n at (drop at bytes)) (omega arith) ∙ reading-full at (drop at bytes) some-left;
-          stepped = rw (lt-leb (length bytes) at h, le-leb 1024 seen l) refl }
+          stepped = rw (lt-leb (length bytes) at h, le-leb 1024 seen l) refl;
+        }
 
     module _ (l : seen < 1024) where
       onward-is : (d : Result (Record × List ℕ) Refusal) → decode at (drop at bytes) ≡ d → onward bytes at seen ≡ proceed at d (λ rest. reading-from (1024 - (seen + 1)) (at + (length (drop at bytes) - length rest)) rest)
@@ -103,7 +105,8 @@ module _ (bytes : List ℕ) (at seen : ℕ) where
             stepped = step-is (Ok got) e;
             forward = omega (arith, length-drop at bytes);
             inside = omega arith;
-            few = l })
+            few = l;
+          })
 
   pub next-is : At-end bytes at seen ⊎ (Refused bytes at seen ⊎ Further bytes at seen)
   next-is =
@@ -122,8 +125,8 @@ module _ (bytes : List ℕ) (at seen to then : ℕ) where
       ⊎-elim
       (λ (v : At-end bytes at seen). v .rest)
       (⊎-elim
-        (λ (v : Refused bytes at seen). let f = answer (Ok None, to, then) (Err (v .fault), at, seen) (e ∙ v .stepped) in let z : _≡_ {A = ℕ} 0 1 = cc in absurd (omega arith))
-        (λ (v : Further bytes at seen). let f = answer (Ok None, to, then) (Ok (Some (v .got)), v .to, seen + 1) (e ∙ v .stepped) in let z : _≡_ {A = ℕ} 0 1 = cc in absurd (omega arith)))
+      (λ (v : Refused bytes at seen). let f = answer (Ok None, to, then) (Err (v .fault), at, seen) (e ∙ v .stepped) in let z : _≡_ {A = ℕ} 0 1 = cc in absurd (omega arith))
+      (λ (v : Further bytes at seen). let f = answer (Ok None, to, then) (Ok (Some (v .got)), v .to, seen + 1) (e ∙ v .stepped) in let z : _≡_ {A = ℕ} 0 1 = cc in absurd (omega arith)))
       (next-is bytes at seen)
 
   pub step-refused : (r : Refusal) → (Err r, to, then) ≡ step bytes at seen → onward bytes at seen ≡ refused r
@@ -131,8 +134,8 @@ module _ (bytes : List ℕ) (at seen to then : ℕ) where
       ⊎-elim
       (λ (v : At-end bytes at seen). let f = answer (Err r, to, then) (Ok None, at, seen) (e ∙ v .stepped) in let z : _≡_ {A = ℕ} 0 1 = cc in absurd (omega arith))
       (⊎-elim
-        (λ (v : Refused bytes at seen). let f = answer (Err r, to, then) (Err (v .fault), at, seen) (e ∙ v .stepped) in let g : v .fault ≡ r = cc in v .rest ∙ ap refused g)
-        (λ (v : Further bytes at seen). let f = answer (Err r, to, then) (Ok (Some (v .got)), v .to, seen + 1) (e ∙ v .stepped) in let z : _≡_ {A = ℕ} 0 1 = cc in absurd (omega arith)))
+      (λ (v : Refused bytes at seen). let f = answer (Err r, to, then) (Err (v .fault), at, seen) (e ∙ v .stepped) in let g : v .fault ≡ r = cc in v .rest ∙ ap refused g)
+      (λ (v : Further bytes at seen). let f = answer (Err r, to, then) (Ok (Some (v .got)), v .to, seen + 1) (e ∙ v .stepped) in let z : _≡_ {A = ℕ} 0 1 = cc in absurd (omega arith)))
       (next-is bytes at seen)
 
   -- a record was read
@@ -148,17 +151,18 @@ module _ (bytes : List ℕ) (at seen to then : ℕ) where
       ⊎-elim
       (λ (v : At-end bytes at seen). let f = answer (Ok (Some r), to, then) (Ok None, at, seen) (e ∙ v .stepped) in let z : _≡_ {A = ℕ} 0 1 = cc in absurd (omega arith))
       (⊎-elim
-        (λ (v : Refused bytes at seen). let f = answer (Ok (Some r), to, then) (Err (v .fault), at, seen) (e ∙ v .stepped) in let z : _≡_ {A = ℕ} 0 1 = cc in absurd (omega arith))
-        (λ (v : Further bytes at seen).
-          let f = answer (Ok (Some r), to, then) (Ok (Some (v .got)), v .to, seen + 1) (e ∙ v .stepped) in
-          let g : v .got ≡ r = cc in
-          let t : v .to ≡ to = sym (ap (λ (x : Step). x .1) (e ∙ v .stepped)) in
-          record {
-            rest = v .rest ∙ (ap (λ x. item at x (onward bytes (v .to) (seen + 1))) g ∙ ap (λ p. item at r (onward bytes p (seen + 1))) t);
-            counted = ap (λ (x : Step). x .2) (e ∙ v .stepped);
-            forward = omega (arith, v .forward);
-            inside = omega (arith, v .inside);
-            few = v .few }))
+      (λ (v : Refused bytes at seen). let f = answer (Ok (Some r), to, then) (Err (v .fault), at, seen) (e ∙ v .stepped) in let z : _≡_ {A = ℕ} 0 1 = cc in absurd (omega arith))
+      (λ (v : Further bytes at seen).
+      let f = answer (Ok (Some r), to, then) (Ok (Some (v .got)), v .to, seen + 1) (e ∙ v .stepped) in
+      let g : v .got ≡ r = cc in
+      let t : v .to ≡ to = sym (ap (λ (x : Step). x .1) (e ∙ v .stepped)) in
+      record {
+        rest = v .rest ∙ (ap (λ x. item at x (onward bytes (v .to) (seen + 1))) g ∙ ap (λ p. item at r (onward bytes p (seen + 1))) t);
+        counted = ap (λ (x : Step). x .2) (e ∙ v .stepped);
+        forward = omega (arith, v .forward);
+        inside = omega (arith, v .inside);
+        few = v .few;
+      }))
       (next-is bytes at seen)
 
 -- what the records of a reading are, by how it begins

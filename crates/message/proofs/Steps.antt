@@ -10,7 +10,7 @@ use Rattle.std.specs.declared.option.Option.the-variants.{Some, None}
 use Rattle.std.specs.declared.result.Result.the-variants.{Ok, Err}
 use Rattle.message.specs.declared.record.Record.{Record}
 use Rattle.message.specs.Bytes.{first-two}
-use Rattle.message.specs.Refusal.{refusal}
+use Rattle.bag.specs.Refusal.{refusal}
 use Rattle.message.specs.Decode.{fields, judged, decode}
 use Rattle.message.specs.Reading.{moved, step}
 use Rattle.message.proofs.Cuts.{rest-is, first-two-is}

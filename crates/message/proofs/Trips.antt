@@ -17,7 +17,7 @@ use mathlib.Core.Logic.{_⊎_, ⊎-elim}
 use lib.Dec.{ltb}
 use Rattle.message.specs.declared.record.Record.{Record}
 use Rattle.message.specs.Bytes.{Bytes, in-two}
-use Rattle.message.specs.Refusal.{Refusal, refusal}
+use Rattle.bag.specs.Refusal.{Refusal, refusal}
 use Rattle.message.specs.Decode.{decode}
 use Rattle.message.specs.Lawful.{lawful, first-unlawful, In-range}
 use Rattle.message.specs.Encode.{map-of, encode, encode-all}
@@ -58,7 +58,8 @@ whole (suc n) at (b ∷ xs) rs h e = on (decode at (b ∷ xs)) refl e (λ at′ 
         record {
           bytes = ap encode-all (s .2) ∙ (ap (λ l. encode (got .0) ++ l) (t .bytes) ∙ sym (w .split));
           few = omega (arith, ap length (s .2), t .few);
-          law = ap first-unlawful (s .2) ∙ (ap (λ b. cond b (mapped suc (first-unlawful (s .0))) (Some 0)) (w .law) ∙ ap (mapped suc) (t .law)) }
+          law = ap first-unlawful (s .2) ∙ (ap (λ b. cond b (mapped suc (first-unlawful (s .0))) (Some 0)) (w .law) ∙ ap (mapped suc) (t .law));
+        }
 
 pub read-then-written : Read-then-written
 read-then-written bytes rs buffer h e room =
@@ -73,6 +74,7 @@ lawful-first r rs e = on (lawful r) refl e
     none : (o : Option ℕ) → mapped suc o ≡ None → o ≡ None
     none None e = refl
     none (Some n) e = let z : _≡_ {A = ℕ} 0 1 = cc in absurd (omega arith)
+
     on : (t : Bool) → lawful r ≡ t → cond t (mapped suc (first-unlawful rs)) (Some 0) ≡ None → (lawful r ≡ true) × (first-unlawful rs ≡ None)
     on true l e = (l, none (first-unlawful rs) e)
     on false l e = let z : _≡_ {A = ℕ} 0 1 = cc in absurd (omega arith)
@@ -108,14 +110,17 @@ accepted rs n buffer after e = long (ltb 1024 (length rs)) refl e
   where
     never : (f : Refusal) → _≡_ {A = Written} (Err f, buffer) (Ok n, after) → ⊥
     never f e = let g = ap (λ (x : Written). x .0) e in let z : _≡_ {A = ℕ} 0 1 = cc in omega arith
+
     short : length rs ≤ 1024 → first-unlawful rs ≡ None → (t : Bool) → ltb (length buffer) (length (encode-all rs)) ≡ t → _≡_ {A = Written} (cond {A = Written} t (Err (refusal 8 0), buffer) (Ok (length (encode-all rs)), encode-all rs ++ drop (length (encode-all rs)) buffer)) (Ok n, after) → Accepted rs n buffer after
     short few law true l e = absurd (never (refusal 8 0) e)
     short few law false l e =
         let g = ap (λ (x : Written). x .0) e in
         record { few = few; law = law; length-is = cc; after-is = sym (ap (λ (x : Written). x .1) e); room = ltb-false (length buffer) (length (encode-all rs)) l }
+
     unlawful : length rs ≤ 1024 → (o : Option ℕ) → first-unlawful rs ≡ o → unless-unlawful o (encode-all rs) buffer ≡ (Ok n, after) → Accepted rs n buffer after
     unlawful few (Some i) l e = absurd (never (refusal 2 i) e)
     unlawful few None l e = short few l (ltb (length buffer) (length (encode-all rs))) refl e
+
     long : (t : Bool) → ltb 1024 (length rs) ≡ t → _≡_ {A = Written} (cond {A = Written} t (Err (refusal 3 1024), buffer) (unless-unlawful (first-unlawful rs) (encode-all rs) buffer)) (Ok n, after) → Accepted rs n buffer after
     long true l e = absurd (never (refusal 3 1024) e)
     long false l e = unlawful (ltb-false 1024 (length rs) l) (first-unlawful rs) refl e

@@ -7,7 +7,7 @@ use Rattle.std.specs.declared.option.Option.the-variants.{Some, None}
 use Rattle.std.specs.declared.result.Result.the-variants.{Ok, Err}
 use Rattle.std.proofs.shelf.Tests.{lt-ltb, le-ltb}
 use Rattle.message.specs.declared.record.Record.{Record}
-use Rattle.message.specs.Refusal.{refusal}
+use Rattle.bag.specs.Refusal.{refusal}
 use Rattle.message.specs.Lawful.{first-unlawful}
 use Rattle.message.specs.Buffer.{laid}
 use Rattle.message.specs.Encode.{encode-all}

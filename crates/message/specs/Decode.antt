@@ -15,7 +15,7 @@ use Rattle.std.specs.declared.result.Result.{Result}
 use Rattle.std.specs.declared.result.Result.the-variants.{Ok, Err}
 use Rattle.message.specs.declared.record.Record.{Record}
 use Rattle.message.specs.Bytes.{first-four, first-two, first-one}
-use Rattle.message.specs.Refusal.{Refusal, refusal}
+use Rattle.bag.specs.Refusal.{Refusal, refusal}
 use lib.Dec.{eqb, ltb, leb}
 use lib.IntN.{ℤ, pos, negsuc}
 use lib.ListN.{getD}

@@ -14,7 +14,7 @@ use Rattle.std.specs.declared.option.Option.the-variants.{Some, None}
 use Rattle.std.specs.declared.result.Result.{Result}
 use Rattle.std.specs.declared.result.Result.the-variants.{Ok, Err}
 use Rattle.message.specs.declared.record.Record.{Record}
-use Rattle.message.specs.Refusal.{Refusal, refusal}
+use Rattle.bag.specs.Refusal.{Refusal, refusal}
 use Rattle.message.specs.Decode.{decode}
 use lib.Dec.{leb}
 use lib.ListN.{length, drop}

@@ -1,26 +1,18 @@
 -- The number and the place of every refusal of the reader and of the writer.
 --
---   Refusal         a refusal's number and place
 --   read-refusal    Torn 1, Map 2, Long 3, each at the first byte of the record that is refused
 --   write-refusal   Long 3 at 1,024; Map 2 at the index of the first unlawful record; Paper 8 at 0
 --   read-told       a reader's answer with its fault as number and place
 --   write-told      a writer's answer, likewise
-use Prim.Native.Nat.{ℕ}
 use Rattle.std.specs.declared.result.Result.{Result}
 use Rattle.std.specs.declared.result.Result.the-variants.{Ok, Err}
+use Rattle.bag.specs.Refusal.{Refusal, refusal}
 use Rattle.message.specs.declared.fault.ReadFault.{ReadFault}
 use Rattle.message.specs.declared.fault.ReadFault.the-variants as reads
 use Rattle.message.specs.declared.fault.WriteFault.{WriteFault}
 use Rattle.message.specs.declared.fault.WriteFault.the-variants as writes
 use Rattle.message.specs.declared.fault.RewriteFault.{RewriteFault}
 use Rattle.message.specs.declared.fault.RewriteFault.the-variants as rewrites
-
-pub record Refusal : Type 0 where
-  pub number : ℕ
-  pub place : ℕ
-
-abbrev pub refusal : ℕ → ℕ → Refusal
-refusal n p = record { number = n; place = p }
 
 abbrev pub read-refusal : ReadFault → Refusal
 read-refusal (reads.Torn at) = refusal 1 at

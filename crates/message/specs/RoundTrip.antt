@@ -7,7 +7,7 @@ use mathlib.Core.List.{List}
 use Rattle.std.specs.declared.result.Result.{Result}
 use Rattle.std.specs.declared.result.Result.the-variants.{Ok, Err}
 use Rattle.message.specs.declared.record.Record.{Record}
-use Rattle.message.specs.Refusal.{Refusal}
+use Rattle.bag.specs.Refusal.{Refusal}
 use Rattle.message.specs.Reading.{reading, records-of}
 use Rattle.message.specs.Writing.{Written, filled, written}
 

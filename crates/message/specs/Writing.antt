@@ -9,7 +9,7 @@ use Rattle.std.specs.declared.option.Option.the-variants.{Some, None}
 use Rattle.std.specs.declared.result.Result.{Result}
 use Rattle.std.specs.declared.result.Result.the-variants.{Ok, Err}
 use Rattle.message.specs.declared.record.Record.{Record}
-use Rattle.message.specs.Refusal.{Refusal, refusal}
+use Rattle.bag.specs.Refusal.{Refusal, refusal}
 use Rattle.message.specs.Lawful.{first-unlawful}
 use Rattle.message.specs.Encode.{encode-all}
 use lib.Dec.{ltb}

@@ -6,6 +6,7 @@ ghost use Rattle.message.specs.Decode.{bit, columns, fields};
 ghost use Rattle.message.specs.Decode.{column-field as columnField, count-field as countField, node-field as nodeField};
 ghost use Rattle.message.specs.Decode.{column-allowed as columnAllowed, columns-allowed as columnsAllowed, allowed as allowedBy};
 use crate::record::Record;
+use bag::row::Row;
 
 // Whether bit `k` of a map stands.
 fn stands(map: u16, k: u32) -> bool
@@ -52,7 +53,7 @@ fn node_field(stands: bool, bytes: &[u8]) -> Option<(u8, &[u8])>
     Some((*a, rest))
 }
 
-fn columns_of(map: u16, bytes: &[u8]) -> Option<([i32; 8], &[u8])>
+fn columns_of(map: u16, bytes: &[u8]) -> Option<(Row, &[u8])>
     ensures { λ r. ⌜ BySome r (columns 8 map (now (bytes .entry)) ≡ None) (λ p. columns 8 map (now (bytes .entry)) ≡ Some (p .0, now (p .1))) ⌝ }
 {
     let mut row = [0; 8];
@@ -90,7 +91,7 @@ fn column_allowed(v: i32) -> bool
     v != 0 && v != i32::MIN
 }
 
-fn columns_allowed(map: u16, row: &[i32; 8]) -> bool
+fn columns_allowed(map: u16, row: &Row) -> bool
     ensures { λ r. ⌜ r ≡ columnsAllowed 8 map (now (row .entry)) ⌝ }
 {
     for k in 0..8 {

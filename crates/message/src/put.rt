@@ -7,6 +7,7 @@ ghost use Rattle.std.specs.shelf.Lists.{joined};
 ghost use Rattle.message.specs.Buffer.{laid};
 ghost use Rattle.message.specs.Encode.{is-zero, bits-value, map-of, column-bytes, count-bytes, node-bytes, encode};
 use crate::record::Record;
+use bag::row::Row;
 
 // Lays `bytes` into the buffer from `at` on, and answers the place behind them.
 fn put_bytes(buffer: &mut [u8], at: usize, bytes: &[u8]) -> usize
@@ -52,7 +53,7 @@ fn put_node(buffer: &mut [u8], at: usize, node: u8) -> usize
     put_bytes(buffer, at, &[node])
 }
 
-fn put_columns(buffer: &mut [u8], at: usize, row: &[i32; 8]) -> usize
+fn put_columns(buffer: &mut [u8], at: usize, row: &Row) -> usize
     requires { ⌜ at + length (joined column-bytes (now row)) ≤ length (now buffer) ⌝ }
     ensures end { λ r. ⌜ r ≡ at + length (joined column-bytes (now (row .entry))) ⌝ }
     ensures after { λ _. ⌜ now (buffer .exit) ≡ laid (now (buffer .entry)) at (joined column-bytes (now (row .entry))) ⌝ }
@@ -65,7 +66,7 @@ fn put_columns(buffer: &mut [u8], at: usize, row: &[i32; 8]) -> usize
 }
 
 // The bits of the columns that are not 0.
-fn columns_map(row: &[i32; 8]) -> u16
+fn columns_map(row: &Row) -> u16
     ensures is { λ r. ⌜ r ≡ bits-value (mapList (λ v. not (is-zero v)) (now (row .entry))) ⌝ }
     ensures bound { λ r. ⌜ r < 256 ⌝ }
 {
@@ -101,7 +102,7 @@ pub(crate) fn put_record(buffer: &mut [u8], at: usize, record: &Record) -> usize
     put_node(buffer, node, record.node)
 }
 
-fn columns_length(row: &[i32; 8]) -> usize
+fn columns_length(row: &Row) -> usize
     ensures is { λ r. ⌜ r ≡ length (joined column-bytes (now (row .entry))) ⌝ }
     ensures bound { λ r. ⌜ r ≤ 32 ⌝ }
 {

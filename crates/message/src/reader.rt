@@ -36,7 +36,8 @@ impl<'a> Reader<'a> {
     pub fn place(&self) -> usize
         ensures { λ r. ⌜ r ≡ now (self .entry) .at ⌝ }
     {
-        self.at
+        let Reader { at, .. } = self;
+        *at
     }
 
     // The next record, or none at the end. A refusal leaves the cursor where it was.

@@ -17,8 +17,9 @@ use crate::put::put_record;
 use crate::put::record_length;
 use crate::record::MAX_RECORDS;
 use crate::record::Record;
+use bag::row::Row;
 
-fn columns_lawful(row: &[i32; 8]) -> bool
+fn columns_lawful(row: &Row) -> bool
     ensures is { λ r. ⌜ r ≡ columnsLawful (now (row .entry)) ⌝ }
     ensures range { λ r. ⌜ (r ≡ true → All (SFits w32) (now (row .entry))) ⌝ }
 {

@@ -14,7 +14,9 @@ fn read(bytes: &[u8]) -> Result<usize, (u8, usize)> {
 fn a_message_holds_1024_records() -> Result<(), Fail> {
     check_eq(read(&[0; 0]), Ok(0))?;
     check_eq(read(&[0; 2048]), Ok(1024))?;
-    check_eq(read(&[0; 2049]), Err((3, 2048))).note("any byte behind the 1,024th record begins another")?;
+    check_eq(read(&[0; 2049]), Err((3, 2048))).note(
+        "any byte behind the 1,024th record begins another",
+    )?;
     check_eq(read(&[0; 2050]), Err((3, 2048)))
 }
 

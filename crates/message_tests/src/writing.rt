@@ -58,9 +58,10 @@ fn an_unlawful_record_is_refused() -> Result<(), Fail> {
 
 #[test]
 fn a_short_buffer_is_refused() -> Result<(), Fail> {
-    let mut buffer = [7; 37];
-    check_eq(written(&[full()], &mut buffer[0..36]), Err((8, 0)))?;
-    check_eq(buffer[0], 7)?;
+    let mut short = [7; 36];
+    check_eq(written(&[full()], &mut short), Err((8, 0)))?;
+    check_eq(short[0], 7)?;
+    let mut buffer = [9; 37];
     check_eq(written(&[full()], &mut buffer), Ok(37))?;
     check_eq(buffer[0], 7).note("the map's upper byte: count, node and take")?;
     check_eq(buffer[1], 0xff)?;

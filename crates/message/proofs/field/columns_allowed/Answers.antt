@@ -33,14 +33,14 @@ loop-k-again c =
     let row = c .args .row .now in
     let k = c .loop-k .k in
     elim (c .else-stands .came) [
-      else-stands·by·then-stands·else-not-column-allowed w ↦
-        let f : SFits w32 (getD row k (pos 0)) = search needs in
-        let p : column-allowed (getD row k (pos 0)) ≡ true = rw (toZ-ofZ w32 (getD row k (pos 0)) f) at (sym (w .if-not-column-allowed .ensures tt)) in
-        let b : bit m k ≡ true = sym (w .if-stands .ensures tt) in
-        let e : (not (bit m k) || column-allowed (getD row k (pos 0))) ≡ true = rw (b, p) refl in
-        ok-more m row k true (c .loop-k .inv) e
-    | else-stands·by·else-stands w ↦
-        let b : bit m k ≡ false = sym (w .if-stands .ensures tt) in
-        let e : (not (bit m k) || column-allowed (getD row k (pos 0))) ≡ true = rw b refl in
-        ok-more m row k true (c .loop-k .inv) e
+      | else-stands·by·then-stands·else-not-column-allowed w ↦
+          let f : SFits w32 (getD row k (pos 0)) = search needs in
+          let p : column-allowed (getD row k (pos 0)) ≡ true = rw (toZ-ofZ w32 (getD row k (pos 0)) f) at (sym (w .if-not-column-allowed .ensures tt)) in
+          let b : bit m k ≡ true = sym (w .if-stands .ensures tt) in
+          let e : (not (bit m k) || column-allowed (getD row k (pos 0))) ≡ true = rw (b, p) refl in
+          ok-more m row k true (c .loop-k .inv) e
+      | else-stands·by·else-stands w ↦
+          let b : bit m k ≡ false = sym (w .if-stands .ensures tt) in
+          let e : (not (bit m k) || column-allowed (getD row k (pos 0))) ≡ true = rw b refl in
+          ok-more m row k true (c .loop-k .inv) e
     ]

@@ -24,12 +24,12 @@ loop-k-again c =
     let v = getD row k (pos 0) in
     let f : SFits w32 v = search needs in
     elim (c .if-row-k-ne0 .came) [
-      then-row-k-ne0 w ↦
-        let n = column-length v false (nonzero-by-bits v f (w .if-row-k-ne0 .taken)) in
-        (omega (arith, w .length-is), omega (arith, w .length-is))
-    | else-row-k-ne0 w ↦
-        let n = column-length v true (zero-by-bits v f (w .if-row-k-ne0 .left)) in
-        (omega (arith, w .length-is), omega (arith, w .length-is))
+      | then-row-k-ne0 w ↦
+          let n = column-length v false (nonzero-by-bits v f (w .if-row-k-ne0 .taken)) in
+          (omega (arith, w .length-is), omega (arith, w .length-is))
+      | else-row-k-ne0 w ↦
+          let n = column-length v true (zero-by-bits v f (w .if-row-k-ne0 .left)) in
+          (omega (arith, w .length-is), omega (arith, w .length-is))
     ]
 
 pub returns : need.returns

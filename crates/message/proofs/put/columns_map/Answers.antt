@@ -26,8 +26,8 @@ loop-k-again c =
     let v = getD row k (pos 0) in
     let f : SFits w32 v = search needs in
     elim (c .if-row-k-ne0 .came) [
-      then-row-k-ne0 w ↦ column-present row k lt (c .loop-k .map) (c .loop-k .inv .0) (c .loop-k .inv .1) (c .if-row-k-ne0 .map) (nonzero-by-bits v f (w .if-row-k-ne0 .taken)) (omega arith) (w .map-is)
-    | else-row-k-ne0 w ↦ column-absent row k lt (c .loop-k .map) (c .loop-k .inv .0) (c .loop-k .inv .1) (c .if-row-k-ne0 .map) (zero-by-bits v f (w .if-row-k-ne0 .left)) (w .map-is)
+      | then-row-k-ne0 w ↦ column-present row k lt (c .loop-k .map) (c .loop-k .inv .0) (c .loop-k .inv .1) (c .if-row-k-ne0 .map) (nonzero-by-bits v f (w .if-row-k-ne0 .taken)) (omega arith) (w .map-is)
+      | else-row-k-ne0 w ↦ column-absent row k lt (c .loop-k .map) (c .loop-k .inv .0) (c .loop-k .inv .1) (c .if-row-k-ne0 .map) (zero-by-bits v f (w .if-row-k-ne0 .left)) (w .map-is)
     ]
 
 pub returns : need.returns

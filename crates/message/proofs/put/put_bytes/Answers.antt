@@ -6,4 +6,5 @@ pub returns : need.returns
 returns c =
     record {
       end = refl;
-      after = laid-by-copy (c .args .buffer .now) (c .args .bytes .now) (c .copy-from-slice .last .self) (c .args .at) (c .copy-from-slice .ensures .after) }
+      after = laid-by-copy (c .args .buffer .now) (c .args .bytes .now) (c .copy-from-slice .last .self) (c .args .at) (c .copy-from-slice .ensures .after);
+    }

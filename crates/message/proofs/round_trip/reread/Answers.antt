@@ -8,7 +8,8 @@ use Rattle.std.specs.declared.result.Result.{Result}
 use Rattle.std.specs.declared.result.Result.the-variants.{Ok, Err}
 use Rattle.std.proofs.shelf.Results.{err-from-errBy}
 use Rattle.message.specs.declared.record.Record.{Record}
-use Rattle.message.specs.Refusal.{Refusal, read-refusal, write-refusal}
+use Rattle.bag.specs.Refusal.{Refusal}
+use Rattle.message.specs.Refusal.{read-refusal, write-refusal}
 use Rattle.message.specs.Listed.{items}
 use Rattle.message.specs.Reading.{reading, records-of}
 use Rattle.message.specs.Writing.{Written, written}

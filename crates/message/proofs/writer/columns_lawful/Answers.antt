@@ -22,7 +22,8 @@ returns-then-row-k c =
     let f : SFits w32 (getD row k (pos 0)) = search needs in
     record {
       is = sym (unlawful-front row (k + 1) (lawful-more row k lt (c .loop-k .inv .0) false (smallest-by-bits (getD row k (pos 0)) f (c .if-row-k .taken))));
-      range = λ e. absurd (false≢true e) }
+      range = λ e. absurd (false≢true e);
+    }
 
 pub loop-k-again : need.loop-k-again
 loop-k-again c =

@@ -13,7 +13,8 @@ pub returns-in-Some : need.returns-in-Some
 returns-in-Some c =
     record {
       answer = written-unlawful (c .args .records .now) (c .args .buffer .now) (c .in-Some .index) (c .if-records-gt-MAX-RECORDS .left) (sym (c .in-Some .ensures tt .is));
-      range = tt }
+      range = tt;
+    }
 
 pub returns-then-buffer-length : need.returns-then-buffer-length
 returns-then-buffer-length c =
@@ -24,4 +25,5 @@ pub returns : need.returns
 returns c =
     record {
       answer = written-laid (c .args .records .now) (c .args .buffer .now) (c .message-length-length .result) (c .put-records .last .buffer) (c .if-records-gt-MAX-RECORDS .left) (sym (c .in-rest .ensures tt .is)) (c .message-length-length .ensures) (c .if-buffer-length .left) (c .put-records .ensures);
-      range = c .in-rest .ensures tt .range }
+      range = c .in-rest .ensures tt .range;
+    }

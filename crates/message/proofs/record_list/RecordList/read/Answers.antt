@@ -52,7 +52,7 @@ loop-record-again c =
     let t : take (len + 1) (set rs len r) ≡ take len rs ++ r ∷ [] = take-more-set rs len r lt in
     let next = onward m (c .next .last .self .at) (len + 1) in
     let e : prefixed (take len rs) (records-of (onward m (c .loop-record .reader .at) len)) ≡ prefixed (take len rs ++ r ∷ []) (records-of next) =
-      ap (λ x. prefixed (take len rs) (records-of x)) (v .rest) ∙ (ap (prefixed (take len rs)) (records-item (c .loop-record .reader .at) r next) ∙ prefixed-more (take len rs) r (records-of next)) in
+    ap (λ x. prefixed (take len rs) (records-of x)) (v .rest) ∙ (ap (prefixed (take len rs)) (records-item (c .loop-record .reader .at) r next) ∙ prefixed-more (take len rs) r (records-of next)) in
     (v .counted, omega (arith, v .few), length-set rs len r ∙ i .2, c .next .ensures .same ∙ i .3, ap (λ l. prefixed l (records-of next)) t ∙ (sym e ∙ i .4))
 
 pub returns : need.returns
@@ -66,5 +66,5 @@ returns c =
     let s : told None ≡ step m at len = sym (ap told (c .in-rest .is)) ∙ (c .in-Continue-record .ensures tt .step ∙ (ap (λ b. step b at (c .loop-record .reader .seen)) (i .3) ∙ ap (step m at) (i .0))) in
     let o = step-ended m at len (c .next .last .self .at) (c .next .last .self .seen) s in
     let e : prefixed (take len rs) (records-of (onward m at len)) ≡ Ok (take len rs) =
-      ap (λ x. prefixed (take len rs) (records-of x)) o ∙ (ap (prefixed (take len rs)) records-end ∙ ap Ok (append-nil (take len rs))) in
+    ap (λ x. prefixed (take len rs) (records-of x)) o ∙ (ap (prefixed (take len rs)) records-end ∙ ap Ok (append-nil (take len rs))) in
     sym e ∙ i .4

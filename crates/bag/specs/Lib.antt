@@ -1,0 +1,13 @@
+pub mod Order
+pub mod Lines
+pub mod Condition
+pub mod Columns
+pub mod Bag
+pub mod Group
+pub mod Measure
+pub mod Operators
+pub mod Changes
+pub mod Propagation
+pub mod Laws
+pub mod Cases
+pub mod Refusal
