@@ -21,11 +21,12 @@ use Rattle.std.specs.declared.result.Result.the-variants.{Ok, Err}
 use Rattle.message.specs.declared.record.Record.{Record}
 use Rattle.message.specs.Bytes.{first-four, first-two, first-one, in-four, in-two}
 use Rattle.message.specs.Decode.{then, bit, column-field, count-field, node-field, columns, fields, column-allowed, columns-allowed, allowed, behind-map, decode}
-use Rattle.message.specs.Lawful.{column-lawful, columns-lawful, lawful, In-range}
-use Rattle.message.specs.Encode.{is-zero, bit-value, bits-value, map-bits, map-of, column-bytes, count-bytes, node-bytes, encode}
+use Rattle.message.specs.Lawful.{is-zero, column-lawful, columns-lawful, lawful, In-range}
+use Rattle.message.specs.Encode.{bit-value, bits-value, map-bits, map-of, column-bytes, count-bytes, node-bytes, encode}
 use Rattle.message.proofs.Numerals.{four-read, two-read}
 use Rattle.message.proofs.Rows.{columns-none, columns-more}
 use Rattle.message.proofs.Joins.{joined-step}
+use Rattle.message.proofs.Encoded.{length-set-columns}
 use Rattle.message.proofs.Maps.{bits-below, bit-of-bits}
 use Rattle.message.proofs.Allowed.{ok-none, ok-more}
 
@@ -47,26 +48,20 @@ node-read n rest false e = rw e refl
 
 -- the bits of a record's map
 module _ (r : Record) (eight : length (r .row) ≡ 8) where
-  set-columns : List Bool
-  set-columns = map (λ v. not (is-zero v)) (r .row)
-
-  eight-bits : length (map (λ (v : ℤ). not (is-zero v)) (r .row)) ≡ 8
-  eight-bits = length-map (r .row) (λ (v : ℤ). not (is-zero v)) ∙ eight
-
   bit-is : (k : ℕ) → bit (map-of r) k ≡ getD (map-bits r) k false
   unfolding map-of
   bit-is k = bit-of-bits (map-bits r) k
 
   pub column-bit : (k : ℕ) → k < 8 → bit (map-of r) k ≡ not (is-zero (getD (r .row) k (pos 0)))
   column-bit k h =
-      let l : k < length (map (λ (v : ℤ). not (is-zero v)) (r .row)) = omega (arith, eight-bits) in
+      let l : k < length (map (λ (v : ℤ). not (is-zero v)) (r .row)) = omega (arith, (length-set-columns r eight)) in
       let l′ : k < length (r .row) = omega arith in
       bit-is k ∙ (getD-append-left (map (λ (v : ℤ). not (is-zero v)) (r .row)) _ false k l ∙ getD-map (λ (v : ℤ). not (is-zero v)) (r .row) k (pos 0) false l′)
 
   high-bit : (i : ℕ) → bit (map-of r) (8 + i) ≡ getD (not (eqb (r .count) 1) ∷ not (eqb (r .node) 0) ∷ r .take ∷ []) i false
   high-bit i =
       let e : (8 + i) - 8 ≡ i = omega arith in
-      bit-is (8 + i) ∙ (getD-append-right (map (λ (v : ℤ). not (is-zero v)) (r .row)) (not (eqb (r .count) 1) ∷ not (eqb (r .node) 0) ∷ r .take ∷ []) 8 (8 + i) false eight-bits (omega arith) ∙ ap (λ n. getD (not (eqb (r .count) 1) ∷ not (eqb (r .node) 0) ∷ r .take ∷ []) n false) e)
+      bit-is (8 + i) ∙ (getD-append-right (map (λ (v : ℤ). not (is-zero v)) (r .row)) (not (eqb (r .count) 1) ∷ not (eqb (r .node) 0) ∷ r .take ∷ []) 8 (8 + i) false (length-set-columns r eight) (omega arith) ∙ ap (λ n. getD (not (eqb (r .count) 1) ∷ not (eqb (r .node) 0) ∷ r .take ∷ []) n false) e)
 
   pub count-bit : bit (map-of r) 8 ≡ not (eqb (r .count) 1)
   count-bit = high-bit 0
@@ -80,7 +75,7 @@ module _ (r : Record) (eight : length (r .row) ≡ 8) where
   pub map-below : map-of r < 2048
   unfolding map-of
   map-below =
-      let n : length (map-bits r) ≡ 11 = length-append (map (λ (v : ℤ). not (is-zero v)) (r .row)) _ ∙ omega (arith, eight-bits) in
+      let n : length (map-bits r) ≡ 11 = length-append (map (λ (v : ℤ). not (is-zero v)) (r .row)) _ ∙ omega (arith, (length-set-columns r eight)) in
       subst (λ k. bits-value (map-bits r) < 2 ^ k) n (bits-below (map-bits r))
 
 module _ (r : Record) (range : In-range r) where
@@ -116,12 +111,11 @@ module _ (r : Record) (range : In-range r) where
 
 -- what a lawful record's fields hold is allowed
 plain : (v : ℤ) → column-lawful v ≡ true → (not (not (is-zero v)) || column-allowed v) ≡ true
-plain (pos n) e = on (eqb n 0)
+plain v e = on (is-zero v)
   where
-    on : (t : Bool) → (not (not t) || not t) ≡ true
+    on : (t : Bool) → (not (not t) || (not t && column-lawful v)) ≡ true
     on true = refl
-    on false = refl
-plain (negsuc n) e = e
+    on false = e
 
 lawful-at : (row : List ℤ) (k : ℕ) → columns-lawful row ≡ true → column-lawful (getD row k (pos 0)) ≡ true
 lawful-at [] k e = refl

@@ -15,7 +15,8 @@ use Rattle.std.proofs.shelf.Bits.{one-shl, pow-pos}
 use Rattle.std.proofs.shelf.Lists.{take-more, map-push, length-map, length-take-le}
 use Rattle.std.proofs.shelf.Signed.{ints}
 use Rattle.std.proofs.shelf.Tests.{eq-eqb, ne-eqb}
-use Rattle.message.specs.Encode.{is-zero, bit-value, bits-value, column-bytes}
+use Rattle.message.specs.Lawful.{is-zero}
+use Rattle.message.specs.Encode.{bit-value, bits-value, column-bytes}
 use Rattle.message.proofs.Maps.{bits-push}
 
 pub zero-by-bits : (v : ℤ) → SFits w32 v → ofZ w32 v ≡ 0 → is-zero v ≡ true

@@ -13,10 +13,6 @@ use Rattle.std.specs.declared.option.Option.{Option}
 use Rattle.std.specs.declared.option.Option.the-variants.{Some, None}
 use Rattle.message.specs.Bytes.{first-four, first-two, first-one}
 
--- what a pattern `[.., rest @ ..]` binds after n elements
-pub rest-is : {X : Type 0} (n : ℕ) (xs : List X) → take (length xs - n) (drop n xs) ≡ drop n xs
-rest-is n xs = take-all (length xs - n) (drop n xs) (simp length-drop (omega arith))
-
 pub first-four-is : (xs : List ℕ) → 4 ≤ length xs → first-four xs ≡ Some (toZ w32 (getD xs 0 0 * 16777216 + getD xs 1 0 * 65536 + getD xs 2 0 * 256 + getD xs 3 0), drop 4 xs)
 first-four-is [] h = absurd (omega arith)
 first-four-is (a ∷ []) h = absurd (omega arith)

@@ -13,7 +13,7 @@ use mir.Val.{toZ, ofZ, SFits}
 use mir.Syntax.{w32}
 use Rattle.std.specs.shelf.Lists.{All, joined}
 use Rattle.std.proofs.shelf.Lists.{length-append, length-push, getD-push, getD-append-left, getD-append-right, getD-map, length-map, append-nil}
-use Rattle.std.proofs.shelf.Tests.{le-leb, eq-eqb, ne-eqb, eqb-true, ltb-true, leb-true, and-parts, and-from, cases-lt, true≢false, false≢true}
+use Rattle.std.proofs.shelf.Tests.{not-true, le-leb, eq-eqb, ne-eqb, eqb-true, ltb-true, leb-true, and-parts, and-from, cases-lt, true≢false, false≢true}
 use Rattle.std.specs.declared.option.Option.{Option}
 use Rattle.std.specs.declared.option.Option.the-variants.{Some, None}
 use Rattle.std.specs.declared.result.Result.{Result}
@@ -22,10 +22,11 @@ use Rattle.message.specs.declared.record.Record.{Record}
 use Rattle.bag.specs.Refusal.{Refusal, refusal}
 use Rattle.message.specs.Bytes.{first-four, first-two, first-one, in-four, in-two, Bytes}
 use Rattle.message.specs.Decode.{then, bit, column-field, count-field, node-field, columns, fields, column-allowed, columns-allowed, allowed, judged, behind-map, decode}
-use Rattle.message.specs.Lawful.{column-lawful, columns-lawful, lawful}
-use Rattle.message.specs.Encode.{is-zero, bit-value, bits-value, map-bits, map-of, column-bytes, count-bytes, node-bytes, encode}
+use Rattle.message.specs.Lawful.{is-zero, column-lawful, columns-lawful, lawful}
+use Rattle.message.specs.Encode.{bit-value, bits-value, map-bits, map-of, column-bytes, count-bytes, node-bytes, encode}
 use Rattle.message.proofs.Numerals.{four-written, two-written}
 use Rattle.message.proofs.Joins.{joined-append}
+use Rattle.message.proofs.Encoded.{length-set-columns}
 use Rattle.message.proofs.Maps.{bits-make}
 use Rattle.message.proofs.Lawfulness.{lawful-append}
 
@@ -41,16 +42,10 @@ Fields stands bytes absent fine lawful xs None = Unit {0}
 Fields stands bytes absent fine lawful xs (Some p) = (not stands || fine (p .0)) ≡ true → Field stands bytes absent lawful xs (p .0) (p .1)
 
 plain-nonzero : (v : ℤ) → column-allowed v ≡ true → is-zero v ≡ false
-plain-nonzero (pos n) e = on (eqb n 0) e
-  where
-    on : (t : Bool) → not t ≡ true → t ≡ false
-    on true e = sym e
-    on false e = refl
-plain-nonzero (negsuc n) e = refl
+plain-nonzero v e = not-true (is-zero v) (and-parts (not (is-zero v)) (column-lawful v) e .0)
 
 plain-lawful : (v : ℤ) → column-allowed v ≡ true → column-lawful v ≡ true
-plain-lawful (pos n) e = refl
-plain-lawful (negsuc n) e = e
+plain-lawful v e = and-parts (not (is-zero v)) (column-lawful v) e .1
 
 column-was : (b : Bool) (xs : List ℕ) → Bytes xs → Fields b column-bytes is-zero column-allowed column-lawful xs (column-field b xs)
 column-was false xs h = λ e. record { split = refl; bit-is = refl; law = refl; left = h }
@@ -212,17 +207,8 @@ unfolding map-of
 map-was r m eight under low count node take =
     bits-make (map-bits r) m (subst (λ n. m < 2 ^ n) (sym eleven) under) at-each
   where
-    set : List Bool
-    set = map (λ (v : ℤ). not (is-zero v)) (r .row)
-
-    high : List Bool
-    high = not (eqb (r .count) 1) ∷ not (eqb (r .node) 0) ∷ r .take ∷ []
-
-    eight-bits : length (map (λ (v : ℤ). not (is-zero v)) (r .row)) ≡ 8
-    eight-bits = length-map (r .row) (λ (v : ℤ). not (is-zero v)) ∙ eight
-
     eleven : length (map-bits r) ≡ 11
-    eleven = length-append (map (λ (v : ℤ). not (is-zero v)) (r .row)) (not (eqb (r .count) 1) ∷ not (eqb (r .node) 0) ∷ r .take ∷ []) ∙ omega (arith, eight-bits)
+    eleven = length-append (map (λ (v : ℤ). not (is-zero v)) (r .row)) (not (eqb (r .count) 1) ∷ not (eqb (r .node) 0) ∷ r .take ∷ []) ∙ omega (arith, (length-set-columns r eight))
 
     high-each : (i : ℕ) → i < 3 → getD (not (eqb (r .count) 1) ∷ not (eqb (r .node) 0) ∷ r .take ∷ []) i false ≡ bit m (8 + i)
     high-each zero h = sym count
@@ -234,11 +220,11 @@ map-was r m eight under low count node take =
     at-each k h =
         ⊎-elim
         (λ l.
-        getD-append-left (map (λ (v : ℤ). not (is-zero v)) (r .row)) (not (eqb (r .count) 1) ∷ not (eqb (r .node) 0) ∷ r .take ∷ []) false k (omega (arith, eight-bits))
+        getD-append-left (map (λ (v : ℤ). not (is-zero v)) (r .row)) (not (eqb (r .count) 1) ∷ not (eqb (r .node) 0) ∷ r .take ∷ []) false k (omega (arith, (length-set-columns r eight)))
         ∙ (getD-map (λ (v : ℤ). not (is-zero v)) (r .row) k (pos 0) false (omega arith) ∙ sym (low k l)))
         (λ l.
         let e : 8 + (k - 8) ≡ k = omega arith in
-        getD-append-right (map (λ (v : ℤ). not (is-zero v)) (r .row)) (not (eqb (r .count) 1) ∷ not (eqb (r .node) 0) ∷ r .take ∷ []) 8 k false eight-bits l
+        getD-append-right (map (λ (v : ℤ). not (is-zero v)) (r .row)) (not (eqb (r .count) 1) ∷ not (eqb (r .node) 0) ∷ r .take ∷ []) 8 k false (length-set-columns r eight) l
         ∙ (high-each (k - 8) (omega (arith, eleven)) ∙ ap (bit m) e))
         (cases-lt k 8)
 

@@ -10,7 +10,8 @@ use lib.ListN.{length, length-append}
 use Rattle.std.specs.shelf.Lists.{joined}
 use Rattle.std.proofs.shelf.Lists.{length-map}
 use Rattle.message.specs.declared.record.Record.{Record}
-use Rattle.message.specs.Encode.{is-zero, bit-value, bits-value, map-bits, map-of, column-bytes, count-bytes, node-bytes, encode}
+use Rattle.message.specs.Lawful.{is-zero}
+use Rattle.message.specs.Encode.{bit-value, bits-value, map-bits, map-of, column-bytes, count-bytes, node-bytes, encode}
 use Rattle.message.proofs.Maps.{bits-append}
 
 -- what a place past a list of records reads as
@@ -20,12 +21,15 @@ none = record { row = []; count = 0; node = 0; take = false }
 abbrev pub set-columns : Record → List Bool
 set-columns r = map (λ (v : ℤ). not (is-zero v)) (r .row)
 
+pub length-set-columns : (r : Record) → length (r .row) ≡ 8 → length (set-columns r) ≡ 8
+length-set-columns r eight = length-map (r .row) (λ (v : ℤ). not (is-zero v)) ∙ eight
+
 -- the map as the sum of what each field adds
 pub map-of-sum : (r : Record) (columns count node take : ℕ) → length (r .row) ≡ 8 → columns ≡ bits-value (set-columns r) → count ≡ 256 * bit-value (not (eqb (r .count) 1)) → node ≡ 512 * bit-value (not (eqb (r .node) 0)) → take ≡ 1024 * bit-value (r .take) → ((columns + count) + node) + take ≡ map-of r
 unfolding map-of bits-value
 map-of-sum r columns count node take eight a b c d =
     let xs = set-columns r in
-    let long : length xs ≡ 8 = length-map (r .row) (λ (v : ℤ). not (is-zero v)) ∙ eight in
+    let long = length-set-columns r eight in
     let p : 2 ^ length xs ≡ 256 = ap (λ n. 2 ^ n) long in
     let x = bit-value (not (eqb (r .count) 1)) in
     let y = bit-value (not (eqb (r .node) 0)) in

@@ -107,6 +107,20 @@ decode-left at (a ∷ b ∷ xs) r rest e = on (fields m xs) (fields-left m xs) e
             (a ∷ b ∷ h .0, ap (λ l. a ∷ b ∷ l) (h .1 ∙ ap (λ l. h .0 ++ l) g), omega arith)
         by false e = let z : _≡_ {A = ℕ} 0 1 = cc in absurd (omega arith)
 
+-- a record is refused at its own first byte
+pub decode-place : (at : ℕ) (xs : List ℕ) (e : Refusal) → decode at xs ≡ Err e → e .place ≡ at
+decode-place at [] e f = let g : e ≡ refusal 1 at = cc in ap (λ (r : Refusal). r .place) g
+decode-place at (a ∷ []) e f = let g : e ≡ refusal 1 at = cc in ap (λ (r : Refusal). r .place) g
+decode-place at (a ∷ b ∷ xs) e f = on (fields (a * 256 + b) xs) f
+  where
+    on : (o : Option (Record × List ℕ)) → judged at (a * 256 + b) o ≡ Err e → e .place ≡ at
+    on None f = let g : e ≡ refusal 1 at = cc in ap (λ (r : Refusal). r .place) g
+    on (Some got) f = by (allowed (a * 256 + b) (got .0)) f
+      where
+        by : (t : Bool) → cond t (Ok got) (Err (refusal 2 at)) ≡ Err e → e .place ≡ at
+        by true f = let z : _≡_ {A = ℕ} 0 1 = cc in absurd (omega arith)
+        by false f = let g : e ≡ refusal 2 at = cc in ap (λ (r : Refusal). r .place) g
+
 -- the bytes that are left are those from some byte on
 pub dropped : (n : ℕ) (xs rest : List ℕ) → Before n xs rest → drop (length xs - length rest) xs ≡ rest
 dropped n xs rest b =

@@ -18,14 +18,17 @@ use Rattle.message.specs.declared.record.Record.{Record}
 use Rattle.bag.specs.Refusal.{Refusal, refusal}
 use Rattle.message.specs.Decode.{decode}
 use Rattle.message.specs.Reading.{Reading, ends, refused, item, proceed, reading-from, reading, records-of, answer-at, behind, Step, moved, step, stand}
-use Rattle.message.proofs.Fronts.{Before, decode-left, dropped}
+use Rattle.message.specs.Bytes.{Bytes}
+use Rattle.message.specs.Encode.{encode}
+use Rattle.message.proofs.Fronts.{Before, decode-left, decode-place, dropped}
+use Rattle.message.proofs.Decoded.{decode-was}
+use Rattle.message.proofs.Steps.{step-decodes}
 
 -- what is still to be read from the byte `at` on, after `seen` records
 abbrev pub onward : List ℕ → ℕ → ℕ → Reading
 onward bytes at seen = reading-from (1024 - seen) at (drop at bytes)
 
 pub record At-end (bytes : List ℕ) (at seen : ℕ) : Type 0 where
-  pub past : length bytes ≤ at
   pub rest : onward bytes at seen ≡ ends
   pub stepped : step bytes at seen ≡ (Ok None, at, seen)
 
@@ -33,6 +36,7 @@ pub record Refused (bytes : List ℕ) (at seen : ℕ) : Type 0 where
   pub fault : Refusal
   pub rest : onward bytes at seen ≡ refused fault
   pub stepped : step bytes at seen ≡ (Err fault, at, seen)
+  pub here : fault .place ≡ at
 
 pub record Further (bytes : List ℕ) (at seen : ℕ) : Type 0 where
   pub got : Record
@@ -42,6 +46,8 @@ pub record Further (bytes : List ℕ) (at seen : ℕ) : Type 0 where
   pub forward : at < to
   pub inside : to ≤ length bytes
   pub few : seen < 1024
+  -- the cursor moves by the record's bytes
+  pub by-bytes : Bytes (drop at bytes) → to ≡ at + length (encode got)
 
 reading-more : (n at : ℕ) (xs : List ℕ) → 0 < length xs → reading-from (suc n) at xs ≡ proceed at (decode at xs) (λ rest. reading-from n (at + (length xs - length rest)) rest)
 unfolding reading-from
@@ -62,7 +68,6 @@ module _ (bytes : List ℕ) (at seen : ℕ) where
   at-end : length bytes ≤ at → At-end bytes at seen
   at-end h =
       record {
-        past = h;
         rest = ap (reading-from (1024 - seen) at) (drop-all at bytes h) ∙ reading-end (1024 - seen) at;
         stepped = rw (le-leb (length bytes) at h) refl;
       }
@@ -77,6 +82,7 @@ module _ (bytes : List ℕ) (at seen : ℕ) where
           fault = refusal 3 at;
           rest = ap (λ n. reading-from n at (drop at bytes)) (omega arith) ∙ reading-full at (drop at bytes) some-left;
           stepped = rw (lt-leb (length bytes) at h, le-leb 1024 seen l) refl;
+          here = refl;
         }
 
     module _ (l : seen < 1024) where
@@ -86,10 +92,10 @@ module _ (bytes : List ℕ) (at seen : ℕ) where
           ap (λ k. reading-from k at (drop at bytes)) n ∙ (reading-more (1024 - (seen + 1)) at (drop at bytes) some-left ∙ ap (λ x. proceed at x (λ rest. reading-from (1024 - (seen + 1)) (at + (length (drop at bytes) - length rest)) rest)) e)
 
       step-is : (d : Result (Record × List ℕ) Refusal) → decode at (drop at bytes) ≡ d → step bytes at seen ≡ moved bytes at seen d
-      step-is d e = rw (lt-leb (length bytes) at h, lt-leb 1024 seen l, e) refl
+      step-is d e = step-decodes bytes at seen h l ∙ ap (moved bytes at seen) e
 
       decoded : (d : Result (Record × List ℕ) Refusal) → decode at (drop at bytes) ≡ d → Refused bytes at seen ⊎ Further bytes at seen
-      decoded (Err f) e = inl (record { fault = f; rest = onward-is (Err f) e; stepped = step-is (Err f) e })
+      decoded (Err f) e = inl (record { fault = f; rest = onward-is (Err f) e; stepped = step-is (Err f) e; here = decode-place at (drop at bytes) f e })
       decoded (Ok got) e =
           let xs = drop at bytes in
           let b = decode-left at xs (got .0) (got .1) e in
@@ -106,6 +112,7 @@ module _ (bytes : List ℕ) (at seen : ℕ) where
             forward = omega (arith, length-drop at bytes);
             inside = omega arith;
             few = l;
+            by-bytes = λ h. let w = decode-was at xs (got .0) (got .1) h e in omega (arith, length-drop at bytes, ap length (w .split), length-append (encode (got .0)) (got .1));
           })
 
   pub next-is : At-end bytes at seen ⊎ (Refused bytes at seen ⊎ Further bytes at seen)

@@ -23,10 +23,12 @@ use Rattle.message.specs.Lawful.{lawful, first-unlawful, In-range}
 use Rattle.message.specs.Encode.{map-of, encode, encode-all}
 use Rattle.message.specs.Reading.{Reading, ends, refused, item, proceed, reading-from, reading, records-of, behind, answer-at, step, stand}
 use Rattle.message.specs.Writing.{Written, filled, unless-unlawful, written}
-use Rattle.message.specs.Laws.{Read-then-written, Written-then-read, One-to-one, Cursor-reads}
+use Rattle.message.specs.Laws.{Read-then-written, Written-then-read, One-to-one, Holdable}
+use Rattle.message.proofs.Cursors.{cursor-reads, answers-of}
+use Rattle.message.proofs.Listings.{behind-ok}
 use Rattle.message.proofs.Codec.{decode-encode}
 use Rattle.message.proofs.Decoded.{decode-was, Was}
-use Rattle.message.specs.RoundTrip.{unless-refused, rewritten, same-records, reread}
+use Rattle.message.specs.RoundTrip.{by-writer, unless-refused, rewritten, same-records, reread}
 use Rattle.message.proofs.Writings.{written-whole, written-lawfully}
 
 -- what a message read without a refusal was
@@ -34,10 +36,6 @@ pub record Whole (n : ℕ) (xs : List ℕ) (rs : List Record) : Type 0 where
   pub bytes : encode-all rs ≡ xs
   pub few : length rs ≤ n
   pub law : first-unlawful rs ≡ None
-
-behind-ok : (r : Record) (o : Result (List Record) Refusal) (rs : List Record) → behind r o ≡ Ok rs → (ss : List Record) × (o ≡ Ok ss) × (rs ≡ r ∷ ss)
-behind-ok r (Ok ss) rs e = (ss, refl, cc)
-behind-ok r (Err f) rs e = let z : _≡_ {A = ℕ} 0 1 = cc in absurd (omega arith)
 
 pub whole : (n at : ℕ) (xs : List ℕ) (rs : List Record) → Bytes xs → records-of (reading-from n at xs) ≡ Ok rs → Whole n xs rs
 unfolding reading-from records-of
@@ -125,35 +123,57 @@ accepted rs n buffer after e = long (ltb 1024 (length rs)) refl e
     long true l e = absurd (never (refusal 3 1024) e)
     long false l e = unlawful (ltb-false 1024 (length rs) l) (first-unlawful rs) refl e
 
-pub written-then-read : Written-then-read
-written-then-read rs n buffer after h e =
+read-after-write : (rs : List Record) (n : ℕ) (buffer after : List ℕ) → All In-range rs → written rs buffer ≡ (Ok n, after) → records-of (reading (take n after)) ≡ Ok rs
+read-after-write rs n buffer after h e =
     let a = accepted rs n buffer after e in
     let t : take n after ≡ encode-all rs = ap (take n) (a .after-is) ∙ take-at (encode-all rs) (drop (length (encode-all rs)) buffer) n (sym (a .length-is)) in
     ap (λ l. records-of (reading l)) t ∙ read-back 1024 0 rs h (a .law) (a .few)
 
+pub written-then-read : Written-then-read
+written-then-read rs buffer h room =
+    let w = read-back 1024 0 rs (h .range) (h .law) (h .few) in
+    record {
+      accepted = written-whole rs buffer (h .few) (h .law) room;
+      whole = w;
+      steps = λ i. cursor-reads (encode-all rs) i ∙ answers-of (reading (encode-all rs)) rs i w;
+    }
+
 pub one-to-one : One-to-one
-one-to-one rs ss hr hs lr ls fr fs e =
-    let a = read-back 1024 0 rs hr lr fr in
-    let b = read-back 1024 0 ss hs ls fs in
+one-to-one rs ss hr hs e =
+    let a = read-back 1024 0 rs (hr .range) (hr .law) (hr .few) in
+    let b = read-back 1024 0 ss (hs .range) (hs .law) (hs .few) in
     let c : Ok rs ≡ Ok ss = sym a ∙ (ap (λ l. records-of (reading l)) e ∙ b) in
     cc
 
 -- the records of a message, written again
-pub rewritten-is : (message buffer : List ℕ) (rs : List Record) → Bytes message → Ok rs ≡ records-of (reading message) → written rs buffer ≡ rewritten message buffer
+pub rewritten-is : (message buffer : List ℕ) (rs : List Record) → Bytes message → Ok rs ≡ records-of (reading message) → (by-writer (written rs buffer .0), written rs buffer .1) ≡ rewritten message buffer
 unfolding rewritten
 rewritten-is message buffer rs h e =
     let w = whole 1024 0 message rs h (sym e) in
-    written-lawfully rs buffer (w .few) (w .law) ∙ (ap (λ l. filled l buffer) (w .bytes) ∙ ap (λ o. unless-refused o message buffer) e)
+    let f : written rs buffer ≡ filled message buffer = written-lawfully rs buffer (w .few) (w .law) ∙ ap (λ l. filled l buffer) (w .bytes) in
+    ap (λ (x : Written). (by-writer (x .0), x .1)) f ∙ ap (λ o. unless-refused o (filled message buffer) buffer) e
 
 pub room-of : (rs : List Record) (n : ℕ) (buffer after : List ℕ) → written rs buffer ≡ (Ok n, after) → n ≤ length after
 room-of rs n buffer after e =
     let a = accepted rs n buffer after e in
     omega (arith, ap length (a .after-is), length-append (encode-all rs) (drop (length (encode-all rs)) buffer), a .length-is)
 
--- records that were written, read again
-pub reread-is : (rs : List Record) (n : ℕ) (buffer after : List ℕ) (o : Result (List Record) Refusal) → All In-range rs → written rs buffer ≡ (Ok n, after) → o ≡ records-of (reading (take (n - 0) after)) → (o, after) ≡ reread rs buffer
-unfolding reread
-reread-is rs n buffer after o h e f =
-    let k : n - 0 ≡ n = omega arith in
-    let g : o ≡ Ok rs = f ∙ (ap (λ m. records-of (reading (take m after))) k ∙ written-then-read rs n buffer after h e) in
-    ap (λ (x : Result (List Record) Refusal). (x, after)) g ∙ sym (ap (same-records rs) e)
+-- records that were written, read again: they are the same, and nothing refuses them
+module _ (rs : List Record) (n : ℕ) (buffer after : List ℕ) (range : All In-range rs) (e : written rs buffer ≡ (Ok n, after)) where
+  again : records-of (reading (take (n - 0) after)) ≡ Ok rs
+  again =
+      let k : n - 0 ≡ n = omega arith in
+      ap (λ m. records-of (reading (take m after))) k ∙ read-after-write rs n buffer after range e
+
+  pub reread-is : (ss : List Record) → Ok ss ≡ records-of (reading (take (n - 0) after)) → (Ok ss, after) ≡ reread rs buffer
+  unfolding reread
+  reread-is ss f =
+      let g : Ok ss ≡ Ok rs = f ∙ again in
+      let h : ss ≡ rs = cc in
+      ap (λ (x : List Record). (Ok x, after)) h ∙ sym (ap (λ (w : Written). (same-records rs (w .0), w .1)) e)
+
+  pub never-refused : (r : Refusal) → Err r ≡ records-of (reading (take (n - 0) after)) → ⊥
+  never-refused r f =
+      let g : Err r ≡ Ok rs = f ∙ again in
+      let z : _≡_ {A = ℕ} 0 1 = cc in
+      omega arith

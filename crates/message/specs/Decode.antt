@@ -15,9 +15,12 @@ use Rattle.std.specs.declared.result.Result.{Result}
 use Rattle.std.specs.declared.result.Result.the-variants.{Ok, Err}
 use Rattle.message.specs.declared.record.Record.{Record}
 use Rattle.message.specs.Bytes.{first-four, first-two, first-one}
-use Rattle.bag.specs.Refusal.{Refusal, refusal}
+use Rattle.bag.specs.Refusal.{Refusal}
+use Rattle.message.specs.declared.fault.ReadFault.the-variants.{Torn, Map}
+use Rattle.message.specs.Refusal.{read-refusal}
+use Rattle.message.specs.Lawful.{is-zero, column-lawful}
 use lib.Dec.{eqb, ltb, leb}
-use lib.IntN.{ℤ, pos, negsuc}
+use lib.IntN.{ℤ, pos}
 use lib.ListN.{getD}
 
 -- what is left to read is passed from field to field
@@ -51,8 +54,7 @@ fields map bytes =
 
 -- a column field is neither 0 nor the smallest number
 abbrev pub column-allowed : ℤ → Bool
-column-allowed (pos n) = not (eqb n 0)
-column-allowed (negsuc n) = not (eqb n 2147483647)
+column-allowed v = not (is-zero v) && column-lawful v
 
 -- of the first k columns each field that stands is allowed
 unfoldable pub columns-allowed : ℕ → ℕ → List ℤ → Bool
@@ -65,11 +67,11 @@ allowed map r =
 
 -- not whole comes before forbidden
 abbrev pub judged : ℕ → ℕ → Option (Record × List ℕ) → Result (Record × List ℕ) Refusal
-judged at map None = Err (refusal 1 at)
-judged at map (Some got) = cond (allowed map (got .0)) (Ok got) (Err (refusal 2 at))
+judged at map None = Err (read-refusal (Torn at))
+judged at map (Some got) = cond (allowed map (got .0)) (Ok got) (Err (read-refusal (Map at)))
 
 abbrev pub behind-map : ℕ → Option (ℕ × List ℕ) → Result (Record × List ℕ) Refusal
-behind-map at None = Err (refusal 1 at)
+behind-map at None = Err (read-refusal (Torn at))
 behind-map at (Some m) = judged at (m .0) (fields (m .0) (m .1))
 
 abbrev pub decode : ℕ → List ℕ → Result (Record × List ℕ) Refusal

@@ -12,12 +12,9 @@ use mathlib.Core.Bool.{Bool, true, false, cond, not}
 use Rattle.std.specs.shelf.Lists.{joined}
 use Rattle.message.specs.declared.record.Record.{Record}
 use Rattle.message.specs.Bytes.{in-four, in-two}
+use Rattle.message.specs.Lawful.{is-zero}
 use lib.Dec.{eqb}
-use lib.IntN.{ℤ, pos, negsuc}
-
-abbrev pub is-zero : ℤ → Bool
-is-zero (pos n) = eqb n 0
-is-zero (negsuc n) = false
+use lib.IntN.{ℤ}
 
 abbrev pub map-bits : Record → List Bool
 map-bits r =

@@ -1,7 +1,8 @@
+pub mod Limits
 pub mod Bytes
 pub mod Refusal
-pub mod Decode
 pub mod Lawful
+pub mod Decode
 pub mod Encode
 pub mod Buffer
 pub mod Reading

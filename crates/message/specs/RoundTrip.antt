@@ -1,26 +1,31 @@
 -- A message read and written again, and records written and read again.
 --
---   rewritten    the reader's refusal; or Paper for a buffer shorter than the message; or the message's length and its own bytes
+--   rewritten    the reader's refusal; or the writer's Paper for a buffer shorter than the message; or the message's length and its own bytes
 --   reread       the writer's refusal; or the same records
 use Prim.Native.Nat.{ℕ}
 use mathlib.Core.List.{List}
 use Rattle.std.specs.declared.result.Result.{Result}
 use Rattle.std.specs.declared.result.Result.the-variants.{Ok, Err}
-use Rattle.message.specs.declared.record.Record.{Record}
 use Rattle.bag.specs.Refusal.{Refusal}
+use Rattle.message.specs.declared.record.Record.{Record}
+use Rattle.message.specs.Refusal.{Told, of-reading, of-writing}
 use Rattle.message.specs.Reading.{reading, records-of}
 use Rattle.message.specs.Writing.{Written, filled, written}
 
-abbrev pub unless-refused : Result (List Record) Refusal → List ℕ → List ℕ → Written
-unless-refused (Err e) message buffer = (Err e, buffer)
-unless-refused (Ok rs) message buffer = filled message buffer
+abbrev pub by-writer : {X : Type 0} → Result X Refusal → Result X Told
+by-writer (Ok x) = Ok x
+by-writer (Err e) = Err (of-writing e)
 
-unfoldable pub rewritten : List ℕ → List ℕ → Written
-rewritten message buffer = unless-refused (records-of (reading message)) message buffer
+abbrev pub unless-refused : Result (List Record) Refusal → Written → List ℕ → Result ℕ Told × List ℕ
+unless-refused (Err e) w buffer = (Err (of-reading e), buffer)
+unless-refused (Ok rs) w buffer = (by-writer (w .0), w .1)
 
-abbrev pub same-records : List Record → Written → Result (List Record) Refusal × List ℕ
-same-records rs (Err e, after) = (Err e, after)
-same-records rs (Ok n, after) = (Ok rs, after)
+unfoldable pub rewritten : List ℕ → List ℕ → Result ℕ Told × List ℕ
+rewritten message buffer = unless-refused (records-of (reading message)) (filled message buffer) buffer
 
-unfoldable pub reread : List Record → List ℕ → Result (List Record) Refusal × List ℕ
-reread rs buffer = same-records rs (written rs buffer)
+abbrev pub same-records : List Record → Result ℕ Refusal → Result (List Record) Told
+same-records rs (Err e) = Err (of-writing e)
+same-records rs (Ok n) = Ok rs
+
+unfoldable pub reread : List Record → List ℕ → Result (List Record) Told × List ℕ
+reread rs buffer = (same-records rs (written rs buffer .0), written rs buffer .1)

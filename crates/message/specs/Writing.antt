@@ -9,7 +9,10 @@ use Rattle.std.specs.declared.option.Option.the-variants.{Some, None}
 use Rattle.std.specs.declared.result.Result.{Result}
 use Rattle.std.specs.declared.result.Result.the-variants.{Ok, Err}
 use Rattle.message.specs.declared.record.Record.{Record}
-use Rattle.bag.specs.Refusal.{Refusal, refusal}
+use Rattle.bag.specs.Refusal.{Refusal}
+use Rattle.message.specs.declared.fault.WriteFault.the-variants.{Long, Map, Paper}
+use Rattle.message.specs.Limits.{max-records}
+use Rattle.message.specs.Refusal.{write-refusal}
 use Rattle.message.specs.Lawful.{first-unlawful}
 use Rattle.message.specs.Encode.{encode-all}
 use lib.Dec.{ltb}
@@ -21,12 +24,12 @@ Written = Result ℕ Refusal × List ℕ
 -- the bytes first, and what stood behind them as it was
 abbrev pub filled : List ℕ → List ℕ → Written
 filled bytes buffer =
-    cond (ltb (length buffer) (length bytes)) (Err (refusal 8 0), buffer) (Ok (length bytes), bytes ++ drop (length bytes) buffer)
+    cond (ltb (length buffer) (length bytes)) (Err (write-refusal Paper), buffer) (Ok (length bytes), bytes ++ drop (length bytes) buffer)
 
 abbrev pub unless-unlawful : Option ℕ → List ℕ → List ℕ → Written
-unless-unlawful (Some index) bytes buffer = (Err (refusal 2 index), buffer)
+unless-unlawful (Some index) bytes buffer = (Err (write-refusal (Map index)), buffer)
 unless-unlawful None bytes buffer = filled bytes buffer
 
 unfoldable pub written : List Record → List ℕ → Written
 written rs buffer =
-    cond (ltb 1024 (length rs)) (Err (refusal 3 1024), buffer) (unless-unlawful (first-unlawful rs) (encode-all rs) buffer)
+    cond (ltb max-records (length rs)) (Err (write-refusal Long), buffer) (unless-unlawful (first-unlawful rs) (encode-all rs) buffer)

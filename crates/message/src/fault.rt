@@ -1,5 +1,6 @@
 ghost use mathlib.Core.Path.{_≡_};
-ghost use Rattle.message.specs.Refusal.{read-refusal, write-refusal, rewrite-refusal};
+ghost use Rattle.message.specs.Refusal.{read-refusal, write-refusal};
+use crate::record::MAX_RECORDS;
 
 // Why a record is not read. `at` is the byte at which the record begins.
 #[derive(Clone, Copy)]
@@ -67,7 +68,7 @@ impl WriteFault {
         ensures { λ r. ⌜ r ≡ write-refusal (now (self .entry)) .place ⌝ }
     {
         match self {
-            WriteFault::Long => 1024,
+            WriteFault::Long => MAX_RECORDS,
             WriteFault::Map { index } => *index,
             WriteFault::Paper => 0,
         }

@@ -5,6 +5,10 @@ ghost use Rattle.std.specs.declared.option.Option.the-variants.{Some, None};
 ghost use Rattle.message.specs.Decode.{bit, columns, fields};
 ghost use Rattle.message.specs.Decode.{column-field as columnField, count-field as countField, node-field as nodeField};
 ghost use Rattle.message.specs.Decode.{column-allowed as columnAllowed, columns-allowed as columnsAllowed, allowed as allowedBy};
+use crate::map::COUNT_BIT;
+use crate::map::MAP_LIMIT;
+use crate::map::NODE_BIT;
+use crate::map::TAKE_BIT;
 use crate::record::Record;
 use bag::row::Row;
 
@@ -71,9 +75,9 @@ pub(crate) fn fields_of(map: u16, bytes: &[u8]) -> Option<(Record, &[u8])>
     ensures { λ r. ⌜ BySome r (fields map (now (bytes .entry)) ≡ None) (λ p. fields map (now (bytes .entry)) ≡ Some (p .0, now (p .1))) ⌝ }
 {
     let (row, rest) = columns_of(map, bytes)?;
-    let (count, rest) = count_field(stands(map, 8), rest)?;
-    let (node, rest) = node_field(stands(map, 9), rest)?;
-    let take = stands(map, 10);
+    let (count, rest) = count_field(stands(map, COUNT_BIT), rest)?;
+    let (node, rest) = node_field(stands(map, NODE_BIT), rest)?;
+    let take = stands(map, TAKE_BIT);
     Some((
         Record {
             row,
@@ -106,8 +110,8 @@ fn columns_allowed(map: u16, row: &Row) -> bool
 pub(crate) fn allowed(map: u16, record: &Record) -> bool
     ensures { λ r. ⌜ r ≡ allowedBy map (now («record» .entry)) ⌝ }
 {
-    map < 2048
+    map < MAP_LIMIT
         && columns_allowed(map, &record.row)
-        && (!stands(map, 8) || record.count >= 2)
-        && (!stands(map, 9) || (record.node >= 1 && record.node <= 15))
+        && (!stands(map, COUNT_BIT) || record.count >= 2)
+        && (!stands(map, NODE_BIT) || (record.node >= 1 && record.node <= 15))
 }

@@ -5,7 +5,11 @@ ghost use Prim.Native.Nat.{_+_, _≤_, _<_};
 ghost use lib.ListN.{length};
 ghost use Rattle.std.specs.shelf.Lists.{joined};
 ghost use Rattle.message.specs.Buffer.{laid};
-ghost use Rattle.message.specs.Encode.{is-zero, bits-value, map-of, column-bytes, count-bytes, node-bytes, encode};
+ghost use Rattle.message.specs.Lawful.{is-zero};
+ghost use Rattle.message.specs.Encode.{bits-value, map-of, column-bytes, count-bytes, node-bytes, encode};
+use crate::map::COUNT_BIT;
+use crate::map::NODE_BIT;
+use crate::map::TAKE_BIT;
 use crate::record::Record;
 use bag::row::Row;
 
@@ -83,9 +87,9 @@ fn map_for(record: &Record) -> u16
     ensures { λ r. ⌜ r ≡ map-of (now («record» .entry)) ⌝ }
 {
     let columns = columns_map(&record.row);
-    let count = if record.count == 1 { 0 } else { 256 };
-    let node = if record.node == 0 { 0 } else { 512 };
-    let take = if record.take { 1024 } else { 0 };
+    let count = if record.count == 1 { 0 } else { 1 << COUNT_BIT };
+    let node = if record.node == 0 { 0 } else { 1 << NODE_BIT };
+    let take = if record.take { 1 << TAKE_BIT } else { 0 };
     columns + count + node + take
 }
 

@@ -9,7 +9,8 @@ use mir.Val.{SFits}
 use mir.Syntax.{w32}
 use borrow.Author.Needs.{needs}
 use Rattle.std.proofs.shelf.Lists.{take-all}
-use Rattle.message.specs.Encode.{is-zero, bits-value}
+use Rattle.message.specs.Lawful.{is-zero}
+use Rattle.message.specs.Encode.{bits-value}
 use Rattle.message.proofs.Maps.{bits-none}
 use Rattle.message.proofs.Columns.{zero-by-bits, nonzero-by-bits, column-present, column-absent}
 use Rattle.message.proofs.put.columns_map.Needs as need

@@ -3,7 +3,8 @@ use mathlib.Core.Bool.{not}
 use mathlib.Core.List.{map}
 use Prim.Native.Nat.{_^_, _<_}
 use lib.ListN.{take}
-use Rattle.message.specs.Encode.{is-zero, bits-value}
+use Rattle.message.specs.Lawful.{is-zero}
+use Rattle.message.specs.Encode.{bits-value}
 use Rattle.message.proofs.put.columns_map.Given as given
 
 abbrev pub Inv-loop-k : given.InvT-loop-k

@@ -14,14 +14,14 @@ use Rattle.message.specs.Listed.{items}
 use Rattle.message.specs.Reading.{reading, records-of}
 use Rattle.message.specs.Writing.{Written, written}
 use Rattle.message.specs.RoundTrip.{same-records, reread}
-use Rattle.message.proofs.Trips.{room-of, reread-is}
+use Rattle.message.proofs.Trips.{room-of, reread-is, never-refused}
 use Rattle.message.proofs.round_trip.reread.Needs as need
 
 pub returns-in-Break-length : need.returns-in-Break-length
 unfolding reread
 returns-in-Break-length c =
     let p = err-from-errBy (c .from-residual .result) (c .from-residual .ensures .1) in
-    let b = ap (same-records (c .args .records .now)) (c .in-Break-length .ensures tt .answer) in
+    let b = ap (λ (w : Written). (same-records (c .args .records .now) (w .0), w .1)) (c .in-Break-length .ensures tt .answer) in
     rw (p .1, p .2) b
 
 pub part-read-end : need.part-read-end
@@ -31,11 +31,10 @@ part-read-end c =
 
 pub returns-in-Break-list : need.returns-in-Break-list
 returns-in-Break-list c =
-    let p = err-from-errBy (c .from-residual-in-Break-list .result) (c .from-residual-in-Break-list .ensures .1) in
     let f = c .in-Continue-length .ensures tt in
-    rw (p .1, p .2) (reread-is (c .args .records .now) (c .in-Continue-length .length) (c .args .buffer .now) (c .write .last .buffer) (Err (read-refusal (c .in-Break-list .field-0 .0))) (f .range) (sym (f .answer)) (c .in-Break-list .ensures tt))
+    absurd (never-refused (c .args .records .now) (c .in-Continue-length .length) (c .args .buffer .now) (c .write .last .buffer) (f .range) (sym (f .answer)) (read-refusal (c .in-Break-list .field-0 .0)) (c .in-Break-list .ensures tt))
 
 pub returns : need.returns
 returns c =
     let f = c .in-Continue-length .ensures tt in
-    reread-is (c .args .records .now) (c .in-Continue-length .length) (c .args .buffer .now) (c .write .last .buffer) (Ok (items (c .in-Continue-list .list))) (f .range) (sym (f .answer)) (c .in-Continue-list .ensures tt)
+    reread-is (c .args .records .now) (c .in-Continue-length .length) (c .args .buffer .now) (c .write .last .buffer) (f .range) (sym (f .answer)) (items (c .in-Continue-list .list)) (c .in-Continue-list .ensures tt)

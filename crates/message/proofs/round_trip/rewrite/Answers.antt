@@ -3,6 +3,7 @@ use mathlib.Core.Path.{_≡_, sym, ap, _∙_}
 use mathlib.Core.List.{List}
 use Prim.Native.Nat.{ℕ}
 use lib.ListN.{getD}
+use Rattle.std.specs.declared.result.Result.{Result}
 use Rattle.std.specs.declared.result.Result.the-variants.{Ok, Err}
 use Rattle.std.proofs.shelf.Elements.{all-from-getD}
 use Rattle.std.proofs.shelf.Results.{err-from-errBy}
@@ -11,16 +12,21 @@ use Rattle.message.specs.Bytes.{Bytes}
 use Rattle.message.specs.Refusal.{read-refusal, write-refusal}
 use Rattle.message.specs.Listed.{items}
 use Rattle.message.specs.Reading.{reading, records-of}
-use Rattle.message.specs.Writing.{Written, written}
-use Rattle.message.specs.RoundTrip.{unless-refused, rewritten}
+use Rattle.message.specs.Refusal.{Told}
+use Rattle.message.specs.Writing.{Written, filled, written}
+use Rattle.message.specs.RoundTrip.{by-writer, unless-refused, rewritten}
 use Rattle.message.proofs.Trips.{rewritten-is}
 use Rattle.message.proofs.round_trip.rewrite.Needs as need
+
+-- what is told of what the writer did
+abbrev told : Written → Result ℕ Told × List ℕ
+told w = (by-writer (w .0), w .1)
 
 pub returns-in-Break-list : need.returns-in-Break-list
 unfolding rewritten
 returns-in-Break-list c =
     let p = err-from-errBy (c .from-residual .result) (c .from-residual .ensures .1) in
-    let b = ap (λ o. unless-refused o (c .args .message .now) (c .args .buffer .now)) (c .in-Break-list .ensures tt) in
+    let b = ap (λ o. unless-refused o (filled (c .args .message .now) (c .args .buffer .now)) (c .args .buffer .now)) (c .in-Break-list .ensures tt) in
     rw (p .1, p .2) b
 
 pub returns-in-Break-length : need.returns-in-Break-length
@@ -31,7 +37,7 @@ returns-in-Break-length c =
     let rs = items (c .in-Continue-list .list) in
     let h : Bytes m = all-from-getD _ m 0 (λ i l. search needs) in
     let r = c .records .ensures in
-    rw (p .1, p .2) (c .in-Break-length .ensures tt .answer ∙ (ap (λ l. written l b) r ∙ rewritten-is m b rs h (c .in-Continue-list .ensures tt)))
+    rw (p .1, p .2) (ap told (c .in-Break-length .ensures tt .answer ∙ ap (λ l. written l b) r) ∙ rewritten-is m b rs h (c .in-Continue-list .ensures tt))
 
 pub returns : need.returns
 returns c =
@@ -40,4 +46,4 @@ returns c =
     let rs = items (c .in-Continue-list .list) in
     let h : Bytes m = all-from-getD _ m 0 (λ i l. search needs) in
     let r = c .records .ensures in
-    c .in-Continue-length .ensures tt .answer ∙ (ap (λ l. written l b) r ∙ rewritten-is m b rs h (c .in-Continue-list .ensures tt))
+    ap told (c .in-Continue-length .ensures tt .answer ∙ ap (λ l. written l b) r) ∙ rewritten-is m b rs h (c .in-Continue-list .ensures tt)
