@@ -1,19 +1,13 @@
 -- A frame whose length and bytes are whole.
-use mathlib.Core.Path.{_≡_, refl, sym, ap, _∙_}
-use mathlib.Core.List.{List, [], _∷_}
+use mathlib.Core.Path.{_≡_, refl}
+use mathlib.Core.List.{List}
 use Prim.Native.Nat.{ℕ, _+_, _-_, _*_, _≤_}
-use native.Mathlib.Omega.{arith}
 use lib.ListN.{length, getD, take, drop}
 use Rattle.std.proofs.shelf.Lists.{take-rest}
 use Rattle.std.proofs.shelf.Tests.{le-ltb}
-use Rattle.std.specs.declared.option.Option.{Option}
-use Rattle.std.specs.declared.option.Option.the-variants.{Some, None}
-use Rattle.boards.specs.Frame.{cut, framed}
-
-framed-is : (input : List ℕ) → 2 ≤ length input → framed input ≡ cut (getD input 0 0 * 256 + getD input 1 0) (drop 2 input)
-framed-is [] h = absurd (omega arith)
-framed-is (a ∷ []) h = absurd (omega arith)
-framed-is (a ∷ b ∷ bytes) h = refl
+use Rattle.std.specs.declared.option.Option.the-variants.{Some}
+use Rattle.message.proofs.Cuts.{first-two-is}
+use Rattle.boards.specs.Frame.{framed}
 
 -- what a pattern `[high, low, rest @ ..]` binds to `rest`
 abbrev pub rest-of : List ℕ → List ℕ
@@ -25,4 +19,4 @@ framed-whole input front back n two e l f b =
     let l′ : n ≤ length (drop 2 input) = rw r at l in
     let f′ : front ≡ take n (drop 2 input) = rw r at f in
     let b′ : back ≡ drop n (drop 2 input) = rw r at b in
-    rw (framed-is input two, ← e, le-ltb (length (drop 2 input)) n l′, f′, b′) refl
+    rw (first-two-is input two, ← e, le-ltb (length (drop 2 input)) n l′, f′, b′) refl

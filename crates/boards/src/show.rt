@@ -17,7 +17,8 @@ fn show_record(rt: &LibcRuntime, record: &Record) -> Result<(), AnyError> {
     Ok(())
 }
 
-// Reads a message, writes its records again, and says whether the bytes are the same.
+// Reads a message, writes its records again, and says whether the bytes are the same. By the contract of `rewrite` they always
+// are, and it never refuses here: the message was read, and no message is longer than the buffer. The program looks all the same.
 fn show_rewritten(rt: &LibcRuntime, number: usize, message: &[u8]) -> Result<(), AnyError> {
     let mut buffer = [0; LONGEST_FRAME];
     let Ok(length) = rewrite(message, &mut buffer) else {

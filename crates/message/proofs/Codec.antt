@@ -1,28 +1,26 @@
 -- A record's bytes read back are the record.
-use mathlib.Core.Path.{_≡_, refl, ap, sym, subst, _∙_}
+use mathlib.Core.Path.{_≡_, refl, ap, subst, _∙_}
 use mathlib.Core.List.{List, [], _∷_, _++_, map, append-assoc}
-use mathlib.Core.Bool.{Bool, true, false, cond, not, _&&_, _||_}
-use mathlib.Core.Logic.{_⊎_, inl, inr, ⊎-elim}
-use Prim.Native.Nat.{ℕ, zero, suc, _+_, _-_, _*_, _/_, _%_, _^_, _≤_, _<_}
+use mathlib.Core.Bool.{Bool, true, false, not, _&&_, _||_}
+use Prim.Native.Nat.{ℕ, zero, suc, _+_, _-_, _^_, _≤_, _<_}
 use native.Mathlib.Numerals.{add-one}
 use native.Mathlib.Omega.{arith}
-use lib.Dec.{eqb, ltb, leb}
+use lib.Dec.{eqb, leb}
 use lib.IntN.{ℤ, pos, negsuc}
 use lib.ListN.{length, getD, take}
-use mir.Val.{toZ, ofZ, SFits}
+use mir.Val.{SFits}
 use mir.Syntax.{w32}
-use Rattle.std.specs.shelf.Lists.{All, joined}
+use Rattle.std.specs.shelf.Lists.{joined}
 use Rattle.std.proofs.shelf.Elements.{all-getD}
-use Rattle.std.proofs.shelf.Lists.{take-more, take-all, length-map, length-append, getD-append-left, getD-append-right, getD-map}
-use Rattle.std.proofs.shelf.Tests.{lt-ltb, le-leb, eq-eqb, ne-eqb, eqb-true, eqb-false, leb-true, and-parts, and-from, cases-bool}
-use Rattle.std.specs.declared.option.Option.{Option}
-use Rattle.std.specs.declared.option.Option.the-variants.{Some, None}
-use Rattle.std.specs.declared.result.Result.the-variants.{Ok, Err}
+use Rattle.std.proofs.shelf.Lists.{take-more, take-all, length-append, getD-append-left, getD-append-right, getD-map}
+use Rattle.std.proofs.shelf.Tests.{lt-ltb, le-leb, eqb-true, eqb-false, leb-true, and-parts, and-from}
+use Rattle.std.specs.declared.option.Option.the-variants.{Some}
+use Rattle.std.specs.declared.result.Result.the-variants.{Ok}
 use Rattle.message.specs.declared.record.Record.{Record}
-use Rattle.message.specs.Bytes.{first-four, first-two, first-one, in-four, in-two}
-use Rattle.message.specs.Decode.{then, bit, column-field, count-field, node-field, columns, fields, column-allowed, columns-allowed, allowed, behind-map, decode}
+use Rattle.message.specs.Bytes.{first-two, in-two}
+use Rattle.message.specs.Decode.{bit, column-field, count-field, node-field, columns, fields, column-allowed, columns-allowed, allowed, behind-map, decode}
 use Rattle.message.specs.Lawful.{is-zero, column-lawful, columns-lawful, lawful, In-range}
-use Rattle.message.specs.Encode.{bit-value, bits-value, map-bits, map-of, column-bytes, count-bytes, node-bytes, encode}
+use Rattle.message.specs.Encode.{bits-value, map-bits, map-of, column-bytes, count-bytes, node-bytes, encode}
 use Rattle.message.proofs.Numerals.{four-read, two-read}
 use Rattle.message.proofs.Rows.{columns-none, columns-more}
 use Rattle.message.proofs.Joins.{joined-step}

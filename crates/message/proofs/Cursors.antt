@@ -1,20 +1,15 @@
 -- The steps of a cursor, one after the other, answer what the message holds.
-use mathlib.Core.Path.{_≡_, refl, ap, sym, subst, _∙_}
+use mathlib.Core.Path.{_≡_, refl, ap, sym, _∙_}
 use mathlib.Core.List.{List, [], _∷_, _++_}
 use mathlib.Core.Logic.{_⊎_, ⊎-elim}
-use Prim.Native.Nat.{ℕ, zero, suc, _+_, _≤_, _<_}
-use native.Mathlib.Numerals.{add-one}
-use native.Mathlib.Nat.{add-suc, add-zero}
+use Prim.Native.Nat.{ℕ, zero, suc, _+_, _<_}
 use native.Mathlib.Omega.{arith}
 use lib.ListN.{length, drop, length-append}
-use Rattle.std.specs.declared.option.Option.{Option}
-use Rattle.std.specs.declared.option.Option.the-variants.{Some, None}
-use Rattle.std.specs.declared.result.Result.{Result}
 use Rattle.std.specs.declared.result.Result.the-variants.{Ok, Err}
 use Rattle.message.specs.declared.record.Record.{Record}
 use Rattle.bag.specs.Refusal.{Refusal}
 use Rattle.std.specs.Finite.{nth}
-use Rattle.message.specs.Reading.{Reading, ends, refused, item, reading, records-of, behind, answer-at, first-records, Step, step, stand}
+use Rattle.message.specs.Reading.{Reading, ends, refused, item, reading, records-of, answer-at, first-records, Step, step, stand}
 use Rattle.message.proofs.Listings.{behind-ok}
 use Rattle.message.specs.Bytes.{Bytes}
 use Rattle.message.specs.Encode.{encode, encode-all}

@@ -1,16 +1,12 @@
 -- Fields that a pattern cuts off are those of the definitions.
-use mathlib.Core.Path.{_≡_, refl, ap, sym}
+use mathlib.Core.Path.{_≡_, refl}
 use mathlib.Core.List.{List, [], _∷_}
-use mathlib.Core.Bool.{Bool, true, false}
 use Prim.Native.Nat.{ℕ, _+_, _-_, _*_, _≤_}
 use native.Mathlib.Omega.{arith}
-use lib.ListN.{length, getD, take, drop, length-drop}
-use lib.IntN.{ℤ}
+use lib.ListN.{length, getD, drop}
 use mir.Val.{toZ}
 use mir.Syntax.{w32}
-use Rattle.std.proofs.shelf.Lists.{take-all}
-use Rattle.std.specs.declared.option.Option.{Option}
-use Rattle.std.specs.declared.option.Option.the-variants.{Some, None}
+use Rattle.std.specs.declared.option.Option.the-variants.{Some}
 use Rattle.message.specs.Bytes.{first-four, first-two, first-one}
 
 pub first-four-is : (xs : List ℕ) → 4 ≤ length xs → first-four xs ≡ Some (toZ w32 (getD xs 0 0 * 16777216 + getD xs 1 0 * 65536 + getD xs 2 0 * 256 + getD xs 3 0), drop 4 xs)

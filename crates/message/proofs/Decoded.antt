@@ -2,28 +2,26 @@
 use mathlib.Core.Path.{_≡_, refl, ap, sym, subst, _∙_}
 use mathlib.Core.List.{List, [], _∷_, _++_, map, append-assoc}
 use mathlib.Core.Bool.{Bool, true, false, cond, not, _&&_, _||_}
-use mathlib.Core.Logic.{_⊎_, inl, inr, ⊎-elim}
-use Prim.Native.Nat.{ℕ, zero, suc, _+_, _-_, _*_, _/_, _%_, _^_, _≤_, _<_}
-use native.Mathlib.Numerals.{add-one}
+use mathlib.Core.Logic.{_⊎_, ⊎-elim}
+use Prim.Native.Nat.{ℕ, zero, suc, _+_, _-_, _*_, _^_, _≤_, _<_}
 use native.Mathlib.Omega.{arith}
 use lib.Dec.{eqb, ltb, leb}
-use lib.IntN.{ℤ, pos, negsuc}
+use lib.IntN.{ℤ, pos}
 use lib.ListN.{length, getD, take}
-use mir.Val.{toZ, ofZ, SFits}
+use mir.Val.{toZ}
 use mir.Syntax.{w32}
-use Rattle.std.specs.shelf.Lists.{All, joined}
-use Rattle.std.proofs.shelf.Lists.{length-append, length-push, getD-push, getD-append-left, getD-append-right, getD-map, length-map, append-nil}
-use Rattle.std.proofs.shelf.Tests.{not-true, le-leb, eq-eqb, ne-eqb, eqb-true, ltb-true, leb-true, and-parts, and-from, cases-lt, true≢false, false≢true}
+use Rattle.std.specs.shelf.Lists.{joined}
+use Rattle.std.proofs.shelf.Lists.{length-append, length-push, getD-push, getD-append-left, getD-append-right, getD-map, append-nil}
+use Rattle.std.proofs.shelf.Tests.{not-true, le-leb, ne-eqb, ltb-true, leb-true, and-parts, and-from, cases-lt}
 use Rattle.std.specs.declared.option.Option.{Option}
 use Rattle.std.specs.declared.option.Option.the-variants.{Some, None}
-use Rattle.std.specs.declared.result.Result.{Result}
 use Rattle.std.specs.declared.result.Result.the-variants.{Ok, Err}
 use Rattle.message.specs.declared.record.Record.{Record}
-use Rattle.bag.specs.Refusal.{Refusal, refusal}
-use Rattle.message.specs.Bytes.{first-four, first-two, first-one, in-four, in-two, Bytes}
-use Rattle.message.specs.Decode.{then, bit, column-field, count-field, node-field, columns, fields, column-allowed, columns-allowed, allowed, judged, behind-map, decode}
+use Rattle.bag.specs.Refusal.{refusal}
+use Rattle.message.specs.Bytes.{in-four, in-two, Bytes}
+use Rattle.message.specs.Decode.{then, bit, column-field, count-field, node-field, columns, fields, column-allowed, columns-allowed, allowed, judged, decode}
 use Rattle.message.specs.Lawful.{is-zero, column-lawful, columns-lawful, lawful}
-use Rattle.message.specs.Encode.{bit-value, bits-value, map-bits, map-of, column-bytes, count-bytes, node-bytes, encode}
+use Rattle.message.specs.Encode.{map-bits, map-of, column-bytes, count-bytes, node-bytes, encode}
 use Rattle.message.proofs.Numerals.{four-written, two-written}
 use Rattle.message.proofs.Joins.{joined-append}
 use Rattle.message.proofs.Encoded.{length-set-columns}

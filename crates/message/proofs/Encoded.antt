@@ -1,8 +1,8 @@
 -- A record's bytes, field by field.
-use mathlib.Core.Path.{_≡_, refl, sym, ap, _∙_}
+use mathlib.Core.Path.{_≡_, ap, _∙_}
 use mathlib.Core.List.{List, [], _∷_, _++_, map}
-use mathlib.Core.Bool.{Bool, true, false, not}
-use Prim.Native.Nat.{ℕ, _+_, _*_, _^_, _≤_}
+use mathlib.Core.Bool.{Bool, false, not}
+use Prim.Native.Nat.{ℕ, _+_, _*_, _^_}
 use native.Mathlib.Omega.{arith}
 use lib.Dec.{eqb}
 use lib.IntN.{ℤ}
@@ -11,7 +11,7 @@ use Rattle.std.specs.shelf.Lists.{joined}
 use Rattle.std.proofs.shelf.Lists.{length-map}
 use Rattle.message.specs.declared.record.Record.{Record}
 use Rattle.message.specs.Lawful.{is-zero}
-use Rattle.message.specs.Encode.{bit-value, bits-value, map-bits, map-of, column-bytes, count-bytes, node-bytes, encode}
+use Rattle.message.specs.Encode.{bit-value, bits-value, map-of, column-bytes, count-bytes, node-bytes, encode}
 use Rattle.message.proofs.Maps.{bits-append}
 
 -- what a place past a list of records reads as

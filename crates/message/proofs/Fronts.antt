@@ -2,9 +2,8 @@
 use mathlib.Core.Path.{_≡_, refl, sym, ap, subst, _∙_}
 use mathlib.Core.List.{List, [], _∷_, _++_, append-assoc}
 use mathlib.Core.Bool.{Bool, true, false, cond}
-use Prim.Native.Nat.{ℕ, zero, suc, _+_, _-_, _*_, _≤_, _<_}
+use Prim.Native.Nat.{ℕ, zero, suc, _+_, _-_, _*_, _≤_}
 use native.Mathlib.Omega.{arith}
-use lib.IntN.{ℤ}
 use lib.ListN.{length, drop, length-append}
 use Rattle.std.proofs.shelf.Lists.{drop-at}
 use Rattle.std.specs.declared.option.Option.{Option}
@@ -13,8 +12,7 @@ use Rattle.std.specs.declared.result.Result.{Result}
 use Rattle.std.specs.declared.result.Result.the-variants.{Ok, Err}
 use Rattle.message.specs.declared.record.Record.{Record}
 use Rattle.bag.specs.Refusal.{Refusal, refusal}
-use Rattle.message.specs.Bytes.{first-two}
-use Rattle.message.specs.Decode.{then, bit, column-field, count-field, node-field, columns, fields, allowed, judged, behind-map, decode}
+use Rattle.message.specs.Decode.{then, bit, column-field, count-field, node-field, columns, fields, allowed, judged, decode}
 
 -- some bytes stand before `rest`, at least n of them
 abbrev pub Before : ℕ → List ℕ → List ℕ → Type 0

@@ -1,26 +1,22 @@
 -- A message read from the cursor's place on: at each step it is at its end, refused, or one record further.
-use mathlib.Core.Path.{_≡_, refl, sym, ap, subst, _∙_}
-use mathlib.Core.List.{List, [], _∷_, _++_}
-use mathlib.Core.Bool.{Bool, true, false, cond}
+use mathlib.Core.Path.{_≡_, refl, sym, ap, _∙_}
+use mathlib.Core.List.{List, [], _∷_}
 use mathlib.Core.Logic.{_⊎_, inl, inr, ⊎-elim}
 use Prim.Native.Nat.{ℕ, zero, suc, _+_, _-_, _≤_, _<_}
-use native.Mathlib.Numerals.{add-one}
 use native.Mathlib.Omega.{arith}
-use lib.Dec.{leb}
 use lib.ListN.{length, drop, length-drop, length-append}
 use Rattle.std.proofs.shelf.Lists.{drop-all, drop-drop}
 use Rattle.std.proofs.shelf.Tests.{le-leb, lt-leb, cases-lt}
-use Rattle.std.specs.declared.option.Option.{Option}
 use Rattle.std.specs.declared.option.Option.the-variants.{Some, None}
 use Rattle.std.specs.declared.result.Result.{Result}
 use Rattle.std.specs.declared.result.Result.the-variants.{Ok, Err}
 use Rattle.message.specs.declared.record.Record.{Record}
 use Rattle.bag.specs.Refusal.{Refusal, refusal}
 use Rattle.message.specs.Decode.{decode}
-use Rattle.message.specs.Reading.{Reading, ends, refused, item, proceed, reading-from, reading, records-of, answer-at, behind, Step, moved, step, stand}
+use Rattle.message.specs.Reading.{Reading, ends, refused, item, proceed, reading-from, records-of, behind, Step, moved, step}
 use Rattle.message.specs.Bytes.{Bytes}
 use Rattle.message.specs.Encode.{encode}
-use Rattle.message.proofs.Fronts.{Before, decode-left, decode-place, dropped}
+use Rattle.message.proofs.Fronts.{decode-left, decode-place, dropped}
 use Rattle.message.proofs.Decoded.{decode-was}
 use Rattle.message.proofs.Steps.{step-decodes}
 

@@ -1,33 +1,32 @@
 -- Whole messages, read and written and written and read.
-use mathlib.Core.Path.{_≡_, refl, ap, sym, subst, _∙_}
-use mathlib.Core.List.{List, [], _∷_, _++_, append-assoc}
+use mathlib.Core.Path.{_≡_, refl, ap, sym, _∙_}
+use mathlib.Core.List.{List, [], _∷_, _++_}
 use mathlib.Core.Bool.{Bool, true, false, cond}
-use Prim.Native.Nat.{ℕ, zero, suc, _+_, _-_, _≤_, _<_}
+use Prim.Native.Nat.{ℕ, zero, suc, _+_, _-_, _≤_}
 use native.Mathlib.Omega.{arith}
 use lib.ListN.{length, take, drop, length-append}
-use Rattle.std.specs.shelf.Lists.{All, joined}
+use Rattle.std.specs.shelf.Lists.{All}
 use Rattle.std.specs.Options.{mapped}
 use Rattle.std.proofs.shelf.Lists.{take-at}
-use Rattle.std.proofs.shelf.Tests.{le-ltb, lt-ltb, ltb-false, cases-bool, cases-lt}
+use Rattle.std.proofs.shelf.Tests.{ltb-false}
 use Rattle.std.specs.declared.option.Option.{Option}
 use Rattle.std.specs.declared.option.Option.the-variants.{Some, None}
 use Rattle.std.specs.declared.result.Result.{Result}
 use Rattle.std.specs.declared.result.Result.the-variants.{Ok, Err}
-use mathlib.Core.Logic.{_⊎_, ⊎-elim}
 use lib.Dec.{ltb}
 use Rattle.message.specs.declared.record.Record.{Record}
-use Rattle.message.specs.Bytes.{Bytes, in-two}
+use Rattle.message.specs.Bytes.{Bytes}
 use Rattle.bag.specs.Refusal.{Refusal, refusal}
 use Rattle.message.specs.Decode.{decode}
 use Rattle.message.specs.Lawful.{lawful, first-unlawful, In-range}
-use Rattle.message.specs.Encode.{map-of, encode, encode-all}
-use Rattle.message.specs.Reading.{Reading, ends, refused, item, proceed, reading-from, reading, records-of, behind, answer-at, step, stand}
+use Rattle.message.specs.Encode.{encode, encode-all}
+use Rattle.message.specs.Reading.{proceed, reading-from, reading, records-of, behind}
 use Rattle.message.specs.Writing.{Written, filled, unless-unlawful, written}
-use Rattle.message.specs.Laws.{Read-then-written, Written-then-read, One-to-one, Holdable}
+use Rattle.message.specs.Laws.{Read-then-written, Written-then-read, One-to-one}
 use Rattle.message.proofs.Cursors.{cursor-reads, answers-of}
 use Rattle.message.proofs.Listings.{behind-ok}
 use Rattle.message.proofs.Codec.{decode-encode}
-use Rattle.message.proofs.Decoded.{decode-was, Was}
+use Rattle.message.proofs.Decoded.{decode-was}
 use Rattle.message.specs.RoundTrip.{by-writer, unless-refused, rewritten, same-records, reread}
 use Rattle.message.proofs.Writings.{written-whole, written-lawfully}
 

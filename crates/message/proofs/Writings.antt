@@ -1,5 +1,5 @@
 -- What is written, by the ways that the writer takes.
-use mathlib.Core.Path.{_≡_, refl, sym, ap, _∙_}
+use mathlib.Core.Path.{_≡_, refl, _∙_}
 use mathlib.Core.List.{List, _++_}
 use Prim.Native.Nat.{ℕ, _≤_, _<_}
 use lib.ListN.{length, drop}
@@ -11,7 +11,7 @@ use Rattle.bag.specs.Refusal.{refusal}
 use Rattle.message.specs.Lawful.{first-unlawful}
 use Rattle.message.specs.Buffer.{laid}
 use Rattle.message.specs.Encode.{encode-all}
-use Rattle.message.specs.Writing.{Written, filled, unless-unlawful, written}
+use Rattle.message.specs.Writing.{Written, filled, written}
 use Rattle.message.proofs.Laid.{laid-first}
 
 module _ (rs : List Record) (buffer : List ℕ) where

@@ -21,10 +21,51 @@ fn a_message_holds_1024_records() -> Result<(), Fail> {
 }
 
 #[test]
+fn fields_are_read_as_written() -> Result<(), Fail> {
+    let Ok(list) = RecordList::read(
+        &[
+            0x06,
+            0x81,
+            0xff,
+            0xff,
+            0xff,
+            0xfe,
+            0,
+            1,
+            0,
+            2,
+            2,
+            1,
+            0,
+            1,
+            0,
+        ],
+    ) else {
+        return Err(Fail::new("refused"));
+    };
+    let records = list.records();
+    check(records.len() == 2)?;
+    check_eq(records[0].row, [-2, 0, 0, 0, 0, 0, 0, 65538])?;
+    check_eq(records[0].count, 1)?;
+    check_eq(records[0].node, 2)?;
+    check(records[0].take)?;
+    check_eq(records[1].row, [0; 8])?;
+    check_eq(records[1].count, 256)?;
+    check_eq(records[1].node, 0)?;
+    check(!records[1].take)
+}
+
+#[test]
+fn every_column_cut_in_its_middle_is_torn() -> Result<(), Fail> {
+    for column in 0..8 {
+        check_eq(read(&[0, 1 << column, 0, 0, 5]), Err((1, 0)))?;
+    }
+    Ok(())
+}
+
+#[test]
 fn a_field_cut_in_its_middle_is_torn() -> Result<(), Fail> {
     check_eq(read(&[0]), Err((1, 0))).note("the map")?;
-    check_eq(read(&[0, 1, 0, 0, 5]), Err((1, 0))).note("column 0")?;
-    check_eq(read(&[0, 0x80, 0, 0, 5]), Err((1, 0))).note("column 7")?;
     check_eq(read(&[0, 3, 0, 0, 0, 5, 0, 0, 0]), Err((1, 0))).note("column 1")?;
     check_eq(read(&[1, 0, 0]), Err((1, 0))).note("the count")?;
     check_eq(read(&[2, 0]), Err((1, 0))).note("the node")?;

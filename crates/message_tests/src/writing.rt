@@ -69,6 +69,22 @@ fn a_short_buffer_is_refused() -> Result<(), Fail> {
 }
 
 #[test]
+fn fields_are_written_as_read() -> Result<(), Fail> {
+    let record = Record {
+        row: [-2, 0, 0, 0, 0, 0, 0, 65538],
+        count: 256,
+        node: 2,
+        take: true,
+    };
+    let mut buffer = [7; 14];
+    check_eq(written(&[record], &mut buffer), Ok(13))?;
+    check_eq(
+        buffer,
+        [0x07, 0x81, 0xff, 0xff, 0xff, 0xfe, 0, 1, 0, 2, 1, 0, 2, 7],
+    )
+}
+
+#[test]
 fn long_comes_before_unlawful_and_unlawful_before_short() -> Result<(), Fail> {
     let mut none = plain();
     none.count = 0;

@@ -1,14 +1,14 @@
 use borrow.Author.Needs.{needs}
-use mathlib.Core.Path.{_≡_, refl, sym, _∙_}
-use mathlib.Core.Bool.{Bool, true, false, not, _||_}
-use Prim.Native.Nat.{_+_, _≤_}
+use mathlib.Core.Path.{_≡_, refl, sym}
+use mathlib.Core.Bool.{true, false, not, _||_}
+use Prim.Native.Nat.{_+_}
 use native.Mathlib.Omega.{arith}
 use lib.IntN.{pos}
 use lib.ListN.{getD}
 use mir.Val.{SFits}
 use mir.Syntax.{w32}
 use Rattle.std.proofs.shelf.Signed.{toZ-ofZ}
-use Rattle.message.specs.Decode.{bit, column-allowed, columns-allowed}
+use Rattle.message.specs.Decode.{bit, column-allowed}
 use Rattle.message.proofs.Allowed.{ok-none, ok-more, ok-false}
 use Rattle.message.proofs.field.columns_allowed.Needs as need
 use Rattle.message.proofs.field.columns_allowed.Needs.{else-stands·by·then-stands·else-not-column-allowed, else-stands·by·else-stands}

@@ -1,16 +1,13 @@
-use mathlib.Core.Path.{_≡_, refl, sym, ap, _∙_}
-use mathlib.Core.Bool.{not}
+use mathlib.Core.Path.{_≡_, sym}
 use mathlib.Core.List.{map}
-use Prim.Native.Nat.{_^_, _<_, _+_}
+use Prim.Native.Nat.{_^_, _<_}
 use native.Mathlib.Omega.{arith}
-use lib.IntN.{ℤ, pos}
+use lib.IntN.{pos}
 use lib.ListN.{length, getD, take}
 use mir.Val.{SFits}
 use mir.Syntax.{w32}
 use borrow.Author.Needs.{needs}
 use Rattle.std.proofs.shelf.Lists.{take-all}
-use Rattle.message.specs.Lawful.{is-zero}
-use Rattle.message.specs.Encode.{bits-value}
 use Rattle.message.proofs.Maps.{bits-none}
 use Rattle.message.proofs.Columns.{zero-by-bits, nonzero-by-bits, column-present, column-absent}
 use Rattle.message.proofs.put.columns_map.Needs as need

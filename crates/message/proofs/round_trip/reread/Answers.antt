@@ -1,18 +1,11 @@
 use borrow.Author.Needs.{needs}
-use mathlib.Core.Path.{_≡_, sym, ap, _∙_}
-use mathlib.Core.List.{List}
-use Prim.Native.Nat.{ℕ, _-_, _≤_}
-use native.Mathlib.Omega.{arith}
-use lib.ListN.{length, take}
-use Rattle.std.specs.declared.result.Result.{Result}
-use Rattle.std.specs.declared.result.Result.the-variants.{Ok, Err}
+use mathlib.Core.Path.{sym, ap}
+use Prim.Native.Nat.{_-_, _≤_}
+use lib.ListN.{length}
 use Rattle.std.proofs.shelf.Results.{err-from-errBy}
-use Rattle.message.specs.declared.record.Record.{Record}
-use Rattle.bag.specs.Refusal.{Refusal}
-use Rattle.message.specs.Refusal.{read-refusal, write-refusal}
+use Rattle.message.specs.Refusal.{read-refusal}
 use Rattle.message.specs.Listed.{items}
-use Rattle.message.specs.Reading.{reading, records-of}
-use Rattle.message.specs.Writing.{Written, written}
+use Rattle.message.specs.Writing.{Written}
 use Rattle.message.specs.RoundTrip.{same-records, reread}
 use Rattle.message.proofs.Trips.{room-of, reread-is, never-refused}
 use Rattle.message.proofs.round_trip.reread.Needs as need

@@ -1,17 +1,12 @@
 use borrow.Author.Needs.{needs}
-use mathlib.Core.Path.{_≡_, sym, ap, _∙_}
+use mathlib.Core.Path.{ap, _∙_}
 use mathlib.Core.List.{List}
 use Prim.Native.Nat.{ℕ}
-use lib.ListN.{getD}
 use Rattle.std.specs.declared.result.Result.{Result}
-use Rattle.std.specs.declared.result.Result.the-variants.{Ok, Err}
 use Rattle.std.proofs.shelf.Elements.{all-from-getD}
 use Rattle.std.proofs.shelf.Results.{err-from-errBy}
-use Rattle.message.specs.declared.record.Record.{Record}
 use Rattle.message.specs.Bytes.{Bytes}
-use Rattle.message.specs.Refusal.{read-refusal, write-refusal}
 use Rattle.message.specs.Listed.{items}
-use Rattle.message.specs.Reading.{reading, records-of}
 use Rattle.message.specs.Refusal.{Told}
 use Rattle.message.specs.Writing.{Written, filled, written}
 use Rattle.message.specs.RoundTrip.{by-writer, unless-refused, rewritten}

@@ -1,8 +1,6 @@
 use borrow.Author.Needs.{needs}
 use mathlib.Core.Path.{_≡_}
-use mathlib.Core.Bool.{true, _&&_}
 use Prim.Native.Nat.{_<_}
-use lib.Dec.{leb}
 use lib.ListN.{length}
 use Rattle.message.proofs.Lawfulness.{in-range}
 use Rattle.message.proofs.writer.lawful.Needs as need

@@ -1,8 +1,8 @@
-use mathlib.Core.Path.{_≡_, sym, ap, _∙_}
+use mathlib.Core.Path.{_≡_}
 use native.Mathlib.Omega.{arith}
 use lib.ListN.{length, take}
 use Rattle.std.proofs.shelf.Lists.{take-all}
-use Rattle.message.specs.Encode.{encode, encode-all}
+use Rattle.message.specs.Encode.{encode}
 use Rattle.message.proofs.Encoded.{none}
 use Rattle.message.proofs.Joins.{length-joined-step}
 use Rattle.message.proofs.writer.message_length.Needs as need

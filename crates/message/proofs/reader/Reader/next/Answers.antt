@@ -1,10 +1,9 @@
 use borrow.Author.Needs.{needs}
-use mathlib.Core.Path.{_≡_, refl, sym, _∙_}
+use mathlib.Core.Path.{refl, sym}
 use Prim.Native.Nat.{_≤_, _<_}
-use native.Mathlib.Omega.{arith}
 use lib.ListN.{length}
 use Rattle.std.specs.declared.option.Option.the-variants.{Some, None}
-use Rattle.message.proofs.Steps.{part, tail, step-short, step-read, left-within}
+use Rattle.message.proofs.Steps.{part, step-short, step-read, left-within}
 use Rattle.message.proofs.reader.Reader.next.Needs as need
 
 pub returns-in-rest : need.returns-in-rest

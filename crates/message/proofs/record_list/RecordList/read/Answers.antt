@@ -1,7 +1,6 @@
-use borrow.Author.Needs.{needs}
-use mathlib.Core.Path.{_≡_, refl, sym, ap, _∙_}
+use mathlib.Core.Path.{_≡_, sym, ap, _∙_}
 use mathlib.Core.List.{[], _∷_, _++_}
-use Prim.Native.Nat.{_+_, _<_, _≤_}
+use Prim.Native.Nat.{_+_, _<_}
 use native.Mathlib.Omega.{arith}
 use lib.ListN.{length, take, set}
 use Rattle.std.proofs.shelf.Lists.{length-set, take-more-set, append-nil}
@@ -10,9 +9,8 @@ use Rattle.std.specs.declared.option.Option.the-variants.{Some, None}
 use Rattle.std.specs.declared.result.Result.the-variants.{Ok, Err}
 use Rattle.std.specs.declared.option.Option.{Option}
 use Rattle.message.specs.declared.record.Record.{Record}
-use Rattle.message.specs.Refusal.{read-refusal, read-told}
-use Rattle.message.specs.Reading.{Step, ends, refused, item, step, records-of, reading}
-use Rattle.message.specs.Listed.{listed}
+use Rattle.message.specs.Refusal.{read-refusal}
+use Rattle.message.specs.Reading.{Step, step, records-of}
 use Rattle.message.proofs.Readings.{onward, step-ended, step-refused, step-read-one, records-end, records-refused, records-item, Read}
 use Rattle.message.proofs.Listings.{prefixed, prefixed-more}
 use Rattle.message.proofs.record_list.RecordList.read.Needs as need
