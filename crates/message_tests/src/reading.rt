@@ -57,8 +57,8 @@ fn fields_are_read_as_written() -> Result<(), Fail> {
 
 #[test]
 fn every_column_cut_in_its_middle_is_torn() -> Result<(), Fail> {
-    for column in 0..8 {
-        check_eq(read(&[0, 1 << column, 0, 0, 5]), Err((1, 0)))?;
+    for map in [1, 2, 4, 8, 16, 32, 64, 128] {
+        check_eq(read(&[0, map, 0, 0, 5]), Err((1, 0)))?;
     }
     Ok(())
 }
