@@ -25,3 +25,6 @@ pub mod LineCounts
 pub mod TestsAtChanges
 pub mod Bounds
 pub mod CasesHold
+pub mod ColumnLaws
+pub mod BoundedRows
+pub mod TurnedChanges

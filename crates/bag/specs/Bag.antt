@@ -14,7 +14,7 @@
 --     applied old d            the bag that the change d leads to
 --     next xs r                the smallest row greater than r, with its count, or none
 --     rows-after xs r          the lines of the rows greater than r
---     lowest-row               eight times the smallest number: stepping from it finds every row but itself
+--     lowest-row               eight times the smallest number: of what the type Row holds it is the least (`The-lowest-row-is-least`)
 use mathlib.Core.Path.{_≡_}
 use mathlib.Core.Bool.{Bool, true, false, cond}
 use mathlib.Core.List.{List, [], _∷_, _++_}

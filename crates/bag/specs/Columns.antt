@@ -7,12 +7,16 @@
 --     followed w a b        the row of the first w columns of a and then the columns of b
 --     agree ps a b          each paired column of a equals its partner of b
 --     Of-width w r          r has eight columns, and those from w on hold 0
+--     Is-row r              r has eight columns, each a signed 32-bit number: what the type Row holds
 use mathlib.Core.Path.{_≡_}
 use mathlib.Core.Bool.{Bool, true, _&&_}
 use mathlib.Core.List.{List, [], _∷_, _++_}
 use Prim.Native.Nat.{ℕ, _≤_}
 use lib.ListN.{length, getD, take, replicate}
 use lib.IntN.{ℤ, pos}
+use mir.Val.{SFits}
+use mir.Syntax.{w32}
+use Rattle.std.specs.shelf.Lists.{All}
 use Rattle.bag.specs.declared.condition.Operand.{Operand}
 use Rattle.bag.specs.declared.condition.Operand.the-variants.{Constant, Column}
 use Rattle.bag.specs.Order.{Row}
@@ -41,6 +45,9 @@ followed w a b = padded (take w a ++ b)
 unfoldable pub agree : List (ℕ × ℕ) → Row → Row → Bool
 agree [] a b = true
 agree (p ∷ ps) a b = same-number (column-of a (p .0)) (column-of b (p .1)) && agree ps a b
+
+abbrev pub Is-row : Row → Type 0
+Is-row r = (length r ≡ 8) × All (SFits w32) r
 
 abbrev pub Of-width : ℕ → Row → Type 0
 Of-width w r = (length r ≡ 8) × ((i : ℕ) → w ≤ i → column-of r i ≡ pos 0)

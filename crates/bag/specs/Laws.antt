@@ -1,5 +1,8 @@
 -- The laws of bags, sums, operators and changes, as statements; each is held by the contract of a function of the same name. Assumes nothing.
 --     Equal-counts-mean-equal-bags            two canonical lists with equal counts are one list
+--     Equal-counts-of-rows-mean-equal-bags    the same where only rows that the type Row holds are listed and compared
+--     The-lowest-row-is-least                 eight times the smallest number is less than every other such row
+--     Columns-are-as-said                     which columns agree, and which stand where in a row that is listed or joined
 --     Sum-follows-change G f                  the sum over the new bag is the sum over the old plus the sum over the change
 --     Counts-are-sums                         counts of bags, of projections and of joins are such sums
 --     Operators-count-as-said                 the counts of keep, both and less
@@ -13,12 +16,14 @@
 --                                             group fits, told from the changed rows and the touched groups alone
 --     Difference-is-the-least-change          the difference of two bags leads from old to new, and no rival takes or puts fewer copies
 --     Change-leads-back                       a change negated leads from new to old
+--     Change-turns-round                      a change with takes and puts exchanged leads from new to old; so do the takes and puts of its negation
 --     Next-finds-the-row-after                next answers the smallest greater row, and none if none is greater
 use mathlib.Core.Path.{_≡_}
 use mathlib.Core.Bool.{Bool, true, false, cond}
 use mathlib.Core.List.{List}
-use Prim.Native.Nat.{ℕ, _+_, _≤_}
-use lib.ListN.{length}
+use mathlib.Core.Logic.{_⊎_}
+use Prim.Native.Nat.{ℕ, _+_, _≤_, _<_}
+use lib.ListN.{length, getD}
 use lib.IntN.{ℤ, pos, _+ℤ_, _-ℤ_, _*ℤ_}
 use Rattle.std.specs.declared.cmp.Ordering.the-variants.{Less}
 use Rattle.std.specs.declared.option.Option.{Option}
@@ -27,16 +32,31 @@ use Rattle.bag.specs.declared.condition.Relation.{Relation}
 use Rattle.bag.specs.declared.condition.Operand.{Operand}
 use Rattle.bag.specs.Order.{Row, row-order}
 use Rattle.bag.specs.Condition.{stands}
-use Rattle.bag.specs.Columns.{column-of, operand-of, Of-width}
-use Rattle.bag.specs.Bag.{Line, Lines, is-zero, copies-at, count, Canonical, Is-bag, Each-row, every-line, negated, difference, applied, next}
+use Rattle.std.specs.Orderings.{Decides}
+use Rattle.std.specs.shelf.Lists.{All}
+use Rattle.bag.specs.Columns.{column-of, operand-of, listed, followed, agree, Is-row, Of-width}
+use Rattle.bag.specs.Bag.{Line, Lines, is-zero, copies-at, count, Canonical, Is-bag, Each-row, every-line, negated, difference, applied, next, lowest-row}
 use Rattle.bag.specs.Group.{Group, Adds-up, sum-over, every-integer, integers}
 use Rattle.bag.specs.Measure.{Measure}
 use Rattle.bag.specs.Operators.{project, join, keep, pick, pair, both, at-least-zero, monus, map-groups, group-key, total-copies, total-value, total-row, total, all-groups-fit}
-use Rattle.bag.specs.Changes.{Moves, Changes, takes, puts, Is-least}
+use Rattle.bag.specs.Changes.{Moves, Changes, takes, puts, Is-change, Is-least}
 use Rattle.bag.specs.Propagation.{change-of-pair, change-of-less, change-of-total, change-of-own-total, touched-groups-fit, appearing, vanishing}
 
 abbrev pub Equal-counts-mean-equal-bags : Type 0
 Equal-counts-mean-equal-bags = (xs ys : Lines) → Canonical xs → Canonical ys → ((q : Row) → count xs q ≡ count ys q) → xs ≡ ys
+
+abbrev pub Equal-counts-of-rows-mean-equal-bags : Type 0
+Equal-counts-of-rows-mean-equal-bags = (xs ys : Lines) → Canonical xs → Canonical ys → Each-row Is-row xs → Each-row Is-row ys →
+    ((q : Row) → Is-row q → count xs q ≡ count ys q) → xs ≡ ys
+
+abbrev pub The-lowest-row-is-least : Type 0
+The-lowest-row-is-least = (r : Row) → Is-row r → (r ≡ lowest-row) ⊎ (row-order lowest-row r ≡ Less)
+
+pub record Columns-are-as-said : Type 0 where
+  pub agreeing : (ps : List (ℕ × ℕ)) (a b : Row) → Decides (agree ps a b) (All (λ p. column-of a (p .0) ≡ column-of b (p .1)) ps)
+  pub of-listed : (is : List ℕ) (r : Row) (i d : ℕ) → i < length is → i < 8 → column-of (listed is r) i ≡ column-of r (getD is i d)
+  pub of-left : (w : ℕ) (a b : Row) (i : ℕ) → length a ≡ 8 → w ≤ 8 → i < w → column-of (followed w a b) i ≡ column-of a i
+  pub of-right : (w : ℕ) (a b : Row) (i : ℕ) → length a ≡ 8 → w + i < 8 → column-of (followed w a b) (w + i) ≡ column-of b i
 
 -- `Counts-are-sums` says that counts, projections and joins are such sums, and the value of a group is one by definition: so this
 -- is the one law of change.
@@ -159,6 +179,11 @@ pub record Leads-back (old d new : Lines) : Type 0 where
 
 abbrev pub Change-leads-back : Type 0
 Change-leads-back = (old d new : Lines) → Changes old d new → Leads-back old d new
+
+pub record Change-turns-round : Type 0 where
+  pub exchanged : (old take put new : Lines) → Is-change old take put new → Is-change new put take old
+  pub takes-of-negated : (d : Lines) → takes (negated d) ≡ puts d
+  pub puts-of-negated : (d : Lines) → puts (negated d) ≡ takes d
 
 -- what `next` may answer: a row that has copies, greater than r, and none that has copies between; or none, if none is greater
 abbrev pub Row-after : Lines → Row → Option Line → Type 0

@@ -3,7 +3,7 @@ ghost use mathlib.Core.List.{_∷_};
 ghost use Prim.Native.Nat.{_-_};
 ghost use lib.ListN.{length, replicate};
 ghost use Rattle.bag.specs.Lines.{blank-stock-line};
-ghost use Rattle.table.specs.Refusals.{left-by};
+ghost use Rattle.bag.specs.Refusal.{left-by};
 use bag::lines::StockLine;
 use std::test::*;
 use table::full::Full;
