@@ -2,10 +2,9 @@
 --     column-of-padded      filling up with zeros changes no column
 --     columns-are-as-said   the law
 use mathlib.Core.Path.{_≡_, refl, sym, ap, _∙_}
-use mathlib.Core.Bool.{true}
-use mathlib.Core.List.{List, [], _∷_, _++_, append-assoc}
+use mathlib.Core.List.{List, [], _∷_, _++_}
 use mathlib.Core.Logic.{⊎-elim}
-use Prim.Native.Nat.{ℕ, zero, suc, _+_, _-_, _≤_, _<_}
+use Prim.Native.Nat.{ℕ, zero, suc, _+_, _-_, _<_}
 use native.Mathlib.Omega.{arith}
 use lib.IntN.{ℤ, pos}
 use lib.ListN.{length, getD, take, replicate}
@@ -16,7 +15,7 @@ use Rattle.std.proofs.shelf.Tests.{cases-lt}
 use Rattle.std.proofs.shelf.Ways.{decides-and}
 use Rattle.bag.specs.Order.{Row}
 use Rattle.bag.specs.Condition.{same-number}
-use Rattle.bag.specs.Columns.{column-of, columns-at, padded, listed, followed, agree}
+use Rattle.bag.specs.Columns.{column-of, columns-at, padded, agree}
 use Rattle.bag.specs.Laws.{Columns-are-as-said}
 use Rattle.bag.proofs.Conditions.{same-number-decides}
 

@@ -6,7 +6,7 @@ use Prim.Native.Nat.{ℕ, zero, suc, _+_, _-_, _^_, _≤_, _<_}
 use native.Mathlib.Numerals.{add-one}
 use native.Mathlib.Omega.{arith}
 use lib.Dec.{eqb, leb}
-use lib.IntN.{ℤ, pos, negsuc}
+use lib.IntN.{ℤ, pos}
 use lib.ListN.{length, getD, take}
 use mir.Val.{SFits}
 use mir.Syntax.{w32}
@@ -19,18 +19,16 @@ use Rattle.std.specs.declared.result.Result.the-variants.{Ok}
 use Rattle.message.specs.declared.record.Record.{Record}
 use Rattle.message.specs.Bytes.{first-two, in-two}
 use Rattle.message.specs.Decode.{bit, column-field, count-field, node-field, columns, fields, column-allowed, columns-allowed, allowed, behind-map, decode}
-use Rattle.message.specs.Lawful.{is-zero, column-lawful, columns-lawful, lawful, In-range}
+use Rattle.bag.specs.Bag.{is-zero}
+use Rattle.message.specs.Lawful.{column-lawful, columns-lawful, lawful, In-range}
 use Rattle.message.specs.Encode.{bits-value, map-bits, map-of, column-bytes, count-bytes, node-bytes, encode}
+use Rattle.bag.proofs.Numbers.{zero-is}
 use Rattle.message.proofs.Numerals.{four-read, two-read}
 use Rattle.message.proofs.Rows.{columns-none, columns-more}
 use Rattle.message.proofs.Joins.{joined-step}
 use Rattle.message.proofs.Encoded.{length-set-columns}
 use Rattle.message.proofs.Maps.{bits-below, bit-of-bits}
 use Rattle.message.proofs.Allowed.{ok-none, ok-more}
-
-zero-is : (v : ℤ) → is-zero v ≡ true → v ≡ pos 0
-zero-is (pos n) e = ap pos (eqb-true n 0 e)
-zero-is (negsuc n) e = let z : false ≡ true = e in let y : _≡_ {A = ℕ} 0 1 = cc in absurd (omega arith)
 
 column-read : (v : ℤ) (rest : List ℕ) → SFits w32 v → (t : Bool) → is-zero v ≡ t → column-field (not t) (column-bytes v ++ rest) ≡ Some (v, rest)
 column-read v rest f true e = rw (e, zero-is v e) refl

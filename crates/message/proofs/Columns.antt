@@ -2,7 +2,7 @@
 use mathlib.Core.Path.{_≡_, refl, sym, ap, _∙_}
 use mathlib.Core.List.{List, map}
 use mathlib.Core.Bool.{Bool, true, false, not}
-use Prim.Native.Nat.{ℕ, _+_, _*_, _%_, _^_, _<_}
+use Prim.Native.Nat.{ℕ, zero, suc, _+_, _*_, _%_, _^_, _<_}
 use native.Mathlib.Nat.{pow-succ'}
 use native.Mathlib.Numerals.{add-one}
 use native.Mathlib.Omega.{arith}
@@ -13,17 +13,17 @@ use mir.Syntax.{w32}
 use Rattle.std.proofs.shelf.Bits.{one-shl}
 use Rattle.std.proofs.shelf.Lists.{take-more, map-push, length-map, length-take-le}
 use Rattle.std.proofs.shelf.Signed.{ints}
-use Rattle.std.proofs.shelf.Tests.{eq-eqb, ne-eqb}
-use Rattle.message.specs.Lawful.{is-zero}
+use Rattle.bag.specs.Bag.{is-zero}
 use Rattle.message.specs.Encode.{bit-value, bits-value, column-bytes}
 use Rattle.message.proofs.Maps.{bits-push}
 
 pub zero-by-bits : (v : ℤ) → SFits w32 v → ofZ w32 v ≡ 0 → is-zero v ≡ true
-zero-by-bits (pos n) f e = eq-eqb n 0 e
+zero-by-bits (pos n) f e = ap (λ k. is-zero (pos k)) e
 zero-by-bits (negsuc n) f e = absurd (omega (arith, ints))
 
 pub nonzero-by-bits : (v : ℤ) → SFits w32 v → (ofZ w32 v ≡ 0 → ⊥) → is-zero v ≡ false
-nonzero-by-bits (pos n) f e = ne-eqb n 0 e
+nonzero-by-bits (pos zero) f e = absurd (e refl)
+nonzero-by-bits (pos (suc n)) f e = refl
 nonzero-by-bits (negsuc n) f e = refl
 
 pub column-length : (v : ℤ) (b : Bool) → is-zero v ≡ b → length (column-bytes v) ≡ 4 * bit-value (not b)

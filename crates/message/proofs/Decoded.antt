@@ -20,7 +20,8 @@ use Rattle.message.specs.declared.record.Record.{Record}
 use Rattle.bag.specs.Refusal.{refusal}
 use Rattle.message.specs.Bytes.{in-four, in-two, Bytes}
 use Rattle.message.specs.Decode.{then, bit, column-field, count-field, node-field, columns, fields, column-allowed, columns-allowed, allowed, judged, decode}
-use Rattle.message.specs.Lawful.{is-zero, column-lawful, columns-lawful, lawful}
+use Rattle.bag.specs.Bag.{is-zero}
+use Rattle.message.specs.Lawful.{column-lawful, columns-lawful, lawful}
 use Rattle.message.specs.Encode.{map-bits, map-of, column-bytes, count-bytes, node-bytes, encode}
 use Rattle.message.proofs.Numerals.{four-written, two-written}
 use Rattle.message.proofs.Joins.{joined-append}

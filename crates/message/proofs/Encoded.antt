@@ -10,7 +10,7 @@ use lib.ListN.{length, length-append}
 use Rattle.std.specs.shelf.Lists.{joined}
 use Rattle.std.proofs.shelf.Lists.{length-map}
 use Rattle.message.specs.declared.record.Record.{Record}
-use Rattle.message.specs.Lawful.{is-zero}
+use Rattle.bag.specs.Bag.{is-zero}
 use Rattle.message.specs.Encode.{bit-value, bits-value, map-of, column-bytes, count-bytes, node-bytes, encode}
 use Rattle.message.proofs.Maps.{bits-append}
 

@@ -18,7 +18,8 @@ use Rattle.message.specs.Bytes.{first-four, first-two, first-one}
 use Rattle.bag.specs.Refusal.{Refusal}
 use Rattle.message.specs.declared.fault.ReadFault.the-variants.{Torn, Map}
 use Rattle.message.specs.Refusal.{read-refusal}
-use Rattle.message.specs.Lawful.{is-zero, column-lawful}
+use Rattle.bag.specs.Bag.{is-zero}
+use Rattle.message.specs.Lawful.{column-lawful}
 use lib.Dec.{eqb, ltb, leb}
 use lib.IntN.{ℤ, pos}
 use lib.ListN.{getD}

@@ -1,13 +1,12 @@
 -- Which records a message can hold.
 --
---   is-zero          a column is 0
 --   lawful           no column is the smallest number, the count is at least 1, the node at most 15
 --   first-unlawful   the index of the first record that is not lawful
 --   In-range         eight columns, each a signed number of 32 bits, and a count of 16 bits: what the type Record holds
 use Prim.Native.Nat.{ℕ, suc, _<_}
 use mathlib.Core.Path.{_≡_}
 use mathlib.Core.List.{List, [], _∷_}
-use mathlib.Core.Bool.{Bool, true, false, cond, not, _&&_}
+use mathlib.Core.Bool.{Bool, true, cond, not, _&&_}
 use Rattle.std.specs.declared.option.Option.{Option}
 use Rattle.std.specs.declared.option.Option.the-variants.{Some, None}
 use Rattle.std.specs.Options.{mapped}
@@ -18,10 +17,6 @@ use lib.IntN.{ℤ, pos, negsuc}
 use lib.ListN.{length}
 use mir.Val.{SFits}
 use mir.Syntax.{w32}
-
-abbrev pub is-zero : ℤ → Bool
-is-zero (pos n) = eqb n 0
-is-zero (negsuc n) = false
 
 abbrev pub column-lawful : ℤ → Bool
 column-lawful (pos n) = true

@@ -5,7 +5,7 @@ ghost use Prim.Native.Nat.{_+_, _≤_, _<_};
 ghost use lib.ListN.{length};
 ghost use Rattle.std.specs.shelf.Lists.{joined};
 ghost use Rattle.message.specs.Buffer.{laid};
-ghost use Rattle.message.specs.Lawful.{is-zero};
+ghost use Rattle.bag.specs.Bag.{is-zero};
 ghost use Rattle.message.specs.Encode.{bits-value, map-of, column-bytes, count-bytes, node-bytes, encode};
 use crate::map::COUNT_BIT;
 use crate::map::NODE_BIT;

@@ -1,7 +1,7 @@
 -- What the answer of `add` says to a caller. Assumes nothing.
 --     refused-since      a refusal is that of a full run, and the key was absent
 --     accepted-since     where it was accepted, the key was there or there was room
-use mathlib.Core.Path.{_≡_, refl, sym, ap, _∙_}
+use mathlib.Core.Path.{_≡_, refl, ap}
 use mathlib.Core.Bool.{Bool, true, false, cond, not, _&&_}
 use mathlib.Core.Logic.{_⊎_, inl, inr}
 use mathlib.Core.List.{List}
@@ -10,14 +10,13 @@ use native.Mathlib.Omega.{arith}
 use lib.Dec.{eqb}
 use lib.ListN.{length}
 use Rattle.std.specs.declared.cmp.Ordering.{Ordering}
-use Rattle.std.specs.declared.option.Option.{Option}
 use Rattle.std.specs.declared.option.Option.the-variants.{Some, None}
 use Rattle.std.proofs.shelf.Tests.{eqb-true, eqb-false}
 use Rattle.table.specs.declared.full.Full.{Full}
 use Rattle.table.specs.Entries.{has-key}
 use Rattle.bag.specs.Refusal.{Refusal}
 use Rattle.table.specs.Refusals.{full-at, refusal-of}
-use Rattle.table.specs.Tables.{lacks-room, add-answer}
+use Rattle.table.specs.Tables.{add-answer}
 
 pub record Refused {E : Type 0} (order : E → E → Ordering) (n : ℕ) (e : E) (xs : List E) (f : Full) : Type 0 where
   pub places : f .places ≡ n

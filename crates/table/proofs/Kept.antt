@@ -7,16 +7,16 @@
 --     accepts-present, accepts-room, refuses-full      what `add` answers
 use mathlib.Core.Path.{_≡_, refl, sym, ap, subst, _∙_}
 use mathlib.Core.Logic.{⊎-elim}
-use mathlib.Core.List.{List, [], _∷_, _++_}
+use mathlib.Core.List.{List, _∷_, _++_}
 use Prim.Native.Nat.{ℕ, suc, min, _+_, _-_, _<_, _≤_}
 use native.Mathlib.Omega.{arith}
 use lib.ListN.{length, set, take, drop, replicate}
 use Rattle.std.specs.declared.cmp.Ordering.{Ordering}
-use Rattle.std.proofs.shelf.Lists.{length-set, length-take-le, length-append, length-replicate, length-take, length-drop, take-take, take-at, drop-at, take-all, drop-drop, drop-replicate, set-append-left, take-append-le}
+use Rattle.std.proofs.shelf.Lists.{length-set, length-take-le, length-append, length-replicate, length-take, length-drop, take-take, take-at, drop-at, take-all, drop-drop, drop-replicate, set-append-left}
 use Rattle.std.proofs.shelf.Tests.{cases-lt, eq-eqb, ne-eqb}
 use Rattle.std.specs.declared.option.Option.the-variants.{Some, None}
 use Rattle.table.specs.Order.{Lawful}
-use Rattle.table.specs.Entries.{Ascending, has-key, place-of, smaller, with-entry, without-key}
+use Rattle.table.specs.Entries.{Ascending, place-of, smaller, with-entry, without-key}
 use Rattle.table.specs.Refusals.{full-at}
 use Rattle.table.specs.Runs.{opened, closed}
 use Rattle.table.specs.declared.table.Table.{Table}

@@ -4,7 +4,7 @@
 --     absent, present        what the words of `Entries` give there
 --     located                every key is one of the two
 use mathlib.Core.Path.{_≡_, refl, sym, ap, subst, _∙_}
-use mathlib.Core.Bool.{Bool, true, false, cond}
+use mathlib.Core.Bool.{true, false}
 use mathlib.Core.Logic.{_⊎_, inl, inr, ⊎-elim}
 use mathlib.Core.List.{List, [], _∷_, _++_}
 use Prim.Native.Nat.{ℕ, zero, suc, _+_, _<_, _≤_}
@@ -12,15 +12,13 @@ use native.Mathlib.Omega.{arith}
 use lib.ListN.{length, getD, set, take, drop}
 use Rattle.std.specs.declared.cmp.Ordering.{Ordering}
 use Rattle.std.specs.declared.cmp.Ordering.the-variants.{Less, Equal, Greater}
-use Rattle.std.specs.declared.option.Option.{Option}
 use Rattle.std.specs.declared.option.Option.the-variants.{Some, None}
-use Rattle.std.specs.Orderings.{isEq, reversed}
-use Rattle.std.specs.Options.{mapped}
+use Rattle.std.specs.Orderings.{reversed}
 use Rattle.std.specs.Sorted.{Sorted}
 use Rattle.std.proofs.shelf.Lawful.{less-from-sorted, sorted-from-test, test-from-sorted}
 use Rattle.std.proofs.shelf.Lists.{getD-read}
 use Rattle.std.proofs.shelf.Tests.{cases-eq}
-use Rattle.table.specs.Order.{Lawful, by-order, same-key}
+use Rattle.table.specs.Order.{Lawful}
 use Rattle.table.specs.Entries.{Ascending, has-key, entry-of, place-of, smaller, with-entry, without-key}
 
 module _ {E : Type 0} (order : E → E → Ordering) (k : E) where

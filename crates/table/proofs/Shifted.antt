@@ -1,7 +1,7 @@
 -- A run in which entries were moved by one place, and the place that came free was written. Assumes nothing.
 --     opened-from, closed-from      the run is `opened` or `closed`, from what stands at each place
-use mathlib.Core.Path.{_≡_, refl, sym, ap, subst, _∙_}
-use mathlib.Core.List.{List, _∷_, _++_}
+use mathlib.Core.Path.{_≡_, sym, _∙_}
+use mathlib.Core.List.{List, _++_}
 use Prim.Native.Nat.{ℕ, suc, _+_, _-_, _<_, _≤_}
 use native.Mathlib.Omega.{arith}
 use lib.ListN.{length, getD, set, take, drop}

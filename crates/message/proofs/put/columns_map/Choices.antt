@@ -3,7 +3,7 @@ use mathlib.Core.Bool.{not}
 use mathlib.Core.List.{map}
 use Prim.Native.Nat.{_^_, _<_}
 use lib.ListN.{take}
-use Rattle.message.specs.Lawful.{is-zero}
+use Rattle.bag.specs.Bag.{is-zero}
 use Rattle.message.specs.Encode.{bits-value}
 use Rattle.message.proofs.put.columns_map.Given as given
 

@@ -1,10 +1,8 @@
-use mathlib.Core.Path.{_≡_, refl}
+use mathlib.Core.Path.{refl}
 use Prim.Native.Nat.{_-_}
 use native.Mathlib.Omega.{arith}
-use Rattle.std.specs.declared.option.Option.the-variants.{Some}
 use Rattle.std.proofs.shelf.Lists.{length-take}
-use Rattle.table.specs.Entries.{place-of}
-use Rattle.table.specs.Tables.{Sound, items}
+use Rattle.table.specs.Tables.{Sound}
 use Rattle.table.proofs.Kept.{remove-closes, sound-without}
 use Rattle.table.proofs.table.Table.close.Needs as need
 
