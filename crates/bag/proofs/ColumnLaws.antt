@@ -1,21 +1,22 @@
 -- Which columns agree, and which stand where in a row that is listed or joined. Assumes nothing.
 --     column-of-padded      filling up with zeros changes no column
+--     column-followed-front, column-followed-behind      the columns of a row that is followed by another
 --     columns-are-as-said   the law
-use mathlib.Core.Path.{_≡_, refl, sym, ap, _∙_}
+use mathlib.Core.Path.{_≡_, refl, sym, _∙_}
 use mathlib.Core.List.{List, [], _∷_, _++_}
 use mathlib.Core.Logic.{⊎-elim}
-use Prim.Native.Nat.{ℕ, zero, suc, _+_, _-_, _<_}
+use Prim.Native.Nat.{ℕ, zero, suc, _-_, _≤_, _<_}
 use native.Mathlib.Omega.{arith}
 use lib.IntN.{ℤ, pos}
 use lib.ListN.{length, getD, take, replicate}
 use Rattle.std.specs.Orderings.{Decides}
 use Rattle.std.specs.shelf.Lists.{All}
-use Rattle.std.proofs.shelf.Lists.{getD-append-left, getD-append-right, getD-take, getD-past, length-take-le}
+use Rattle.std.proofs.shelf.Lists.{getD-append-left, getD-append-right, getD-take, getD-past, length-take}
 use Rattle.std.proofs.shelf.Tests.{cases-lt}
 use Rattle.std.proofs.shelf.Ways.{decides-and}
 use Rattle.bag.specs.Order.{Row}
 use Rattle.bag.specs.Condition.{same-number}
-use Rattle.bag.specs.Columns.{column-of, columns-at, padded, agree}
+use Rattle.bag.specs.Columns.{column-of, columns-at, padded, followed, agree}
 use Rattle.bag.specs.Laws.{Columns-are-as-said}
 use Rattle.bag.proofs.Conditions.{same-number-decides}
 
@@ -46,15 +47,18 @@ agreeing [] a b = ((λ e. tt), (λ h. refl))
 agreeing (p ∷ ps) a b =
     decides-and (same-number (column-of a (p .0)) (column-of b (p .1))) (agree ps a b) (same-number-decides (column-of a (p .0)) (column-of b (p .1))) (agreeing ps a b)
 
+pub column-followed-front : (w : ℕ) (a b : Row) (i : ℕ) → length a ≡ 8 → i < 8 → i < w → column-of (followed w a b) i ≡ column-of a i
+column-followed-front w a b i e h l =
+    column-of-padded (take w a ++ b) i h ∙ getD-append-left (take w a) b (pos 0) i (omega (arith, length-take w a)) ∙ getD-take w a i (pos 0) l
+
+pub column-followed-behind : (w : ℕ) (a b : Row) (i : ℕ) → length a ≡ 8 → i < 8 → w ≤ i → column-of (followed w a b) i ≡ column-of b (i - w)
+column-followed-behind w a b i e h l =
+    column-of-padded (take w a ++ b) i h ∙ getD-append-right (take w a) b w i (pos 0) (omega (arith, length-take w a)) l
+
 pub columns-are-as-said : Columns-are-as-said
 columns-are-as-said = record {
   agreeing = agreeing;
   of-listed = λ is r i d h k. column-of-padded (columns-at is r) i k ∙ column-at is r i d h;
-  of-left = λ w a b i l h k.
-      let n : length (take w a) ≡ w = length-take-le w a (omega arith) in
-      column-of-padded (take w a ++ b) i (omega arith) ∙ (getD-append-left (take w a) b (pos 0) i (omega arith) ∙ getD-take w a i (pos 0) k);
-  of-right = λ w a b i l h.
-      let n : length (take w a) ≡ w = length-take-le w a (omega arith) in
-      let m : (w + i) - w ≡ i = omega arith in
-      column-of-padded (take w a ++ b) (w + i) h ∙ (getD-append-right (take w a) b w (w + i) (pos 0) n (omega arith) ∙ ap (column-of b) m);
+  of-left = column-followed-front;
+  of-right = column-followed-behind;
 }

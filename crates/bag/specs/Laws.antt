@@ -22,7 +22,7 @@ use mathlib.Core.Path.{_≡_}
 use mathlib.Core.Bool.{Bool, true, false, cond}
 use mathlib.Core.List.{List}
 use mathlib.Core.Logic.{_⊎_}
-use Prim.Native.Nat.{ℕ, _+_, _≤_, _<_}
+use Prim.Native.Nat.{ℕ, _+_, _-_, _≤_, _<_}
 use lib.ListN.{length, getD}
 use lib.IntN.{ℤ, pos, _+ℤ_, _-ℤ_, _*ℤ_}
 use Rattle.std.specs.declared.cmp.Ordering.the-variants.{Less}
@@ -55,8 +55,8 @@ The-lowest-row-is-least = (r : Row) → Is-row r → (r ≡ lowest-row) ⊎ (row
 pub record Columns-are-as-said : Type 0 where
   pub agreeing : (ps : List (ℕ × ℕ)) (a b : Row) → Decides (agree ps a b) (All (λ p. column-of a (p .0) ≡ column-of b (p .1)) ps)
   pub of-listed : (is : List ℕ) (r : Row) (i d : ℕ) → i < length is → i < 8 → column-of (listed is r) i ≡ column-of r (getD is i d)
-  pub of-left : (w : ℕ) (a b : Row) (i : ℕ) → length a ≡ 8 → w ≤ 8 → i < w → column-of (followed w a b) i ≡ column-of a i
-  pub of-right : (w : ℕ) (a b : Row) (i : ℕ) → length a ≡ 8 → w + i < 8 → column-of (followed w a b) (w + i) ≡ column-of b i
+  pub of-left : (w : ℕ) (a b : Row) (i : ℕ) → length a ≡ 8 → i < 8 → i < w → column-of (followed w a b) i ≡ column-of a i
+  pub of-right : (w : ℕ) (a b : Row) (i : ℕ) → length a ≡ 8 → i < 8 → w ≤ i → column-of (followed w a b) i ≡ column-of b (i - w)
 
 -- `Counts-are-sums` says that counts, projections and joins are such sums, and the value of a group is one by definition: so this
 -- is the one law of change.

@@ -1,7 +1,5 @@
 -- Rows of eight columns, column by column. Assumes nothing.
---     column-padded                  a row filled up with zeros has the columns that it was made of
 --     padded-same, padded-behind     only eight columns matter, and no zero behind them
---     column-followed-front, column-followed-behind      the columns of a row that is followed by another
 --     column-from                    the columns from a place on
 --     Filled target i row            the first i columns of row are those of target
 --     filled-more, filled-step, filled-all      one column more, and all of them
@@ -13,50 +11,30 @@ use Prim.Native.Nat.{ℕ, zero, suc, _+_, _-_, _≤_, _<_, min}
 use native.Mathlib.Omega.{arith}
 use lib.ListN.{length, take, drop, set, replicate}
 use lib.IntN.{ℤ, pos}
-use Rattle.std.proofs.shelf.Lists.{ext-getD, getD-take, getD-drop, getD-append-left, getD-append-right, getD-set-same, getD-set-other, getD-past, length-take, length-set, take-take, take-all, take-append-le}
+use Rattle.std.proofs.shelf.Lists.{ext-getD, getD-take, getD-drop, getD-set-same, getD-set-other, getD-past, length-take, length-set, take-take, take-all, take-append-le}
 use mir.Syntax.{w32}
 use mir.Val.{SFits, toZ, ofZ}
 use Rattle.std.proofs.shelf.Signed.{toZ-ofZ}
 use Rattle.std.proofs.shelf.Tests.{cases-eq, cases-lt}
-use Rattle.bag.specs.Columns.{column-of, padded, followed}
+use Rattle.bag.specs.Columns.{column-of, padded}
 use Rattle.bag.proofs.ColumnKinds.{length-padded}
+use Rattle.bag.proofs.ColumnLaws.{column-of-padded}
 use Rattle.measure.specs.SideBySide.{exactly}
-
-column-zeros : (n i : ℕ) → column-of (replicate n (pos 0)) i ≡ pos 0
-column-zeros zero i = refl
-column-zeros (suc n) zero = refl
-column-zeros (suc n) (suc i) = column-zeros n i
-
-column-before-zeros : (zs : List ℤ) (n i : ℕ) → column-of (zs ++ replicate n (pos 0)) i ≡ column-of zs i
-column-before-zeros [] n i = column-zeros n i
-column-before-zeros (z ∷ zs) n zero = refl
-column-before-zeros (z ∷ zs) n (suc i) = column-before-zeros zs n i
-
-pub column-padded : (zs : List ℤ) (i : ℕ) → i < 8 → column-of (padded zs) i ≡ column-of zs i
-column-padded zs i h = getD-take 8 (zs ++ replicate 8 (pos 0)) i (pos 0) h ∙ column-before-zeros zs 8 i
 
 pub padded-same : (xs ys : List ℤ) → ((i : ℕ) → i < 8 → column-of xs i ≡ column-of ys i) → padded xs ≡ padded ys
 padded-same xs ys h =
-    ext-getD (pos 0) (padded xs) (padded ys) (length-padded xs ∙ sym (length-padded ys)) (λ i l. let e = length-padded xs in let k : i < 8 = omega arith in column-padded xs i k ∙ h i k ∙ sym (column-padded ys i k))
+    ext-getD (pos 0) (padded xs) (padded ys) (length-padded xs ∙ sym (length-padded ys)) (λ i l. let e = length-padded xs in let k : i < 8 = omega arith in column-of-padded xs i k ∙ h i k ∙ sym (column-of-padded ys i k))
 
 pub padded-behind : (xs zs : List ℤ) → padded (xs ++ padded zs) ≡ padded (xs ++ zs)
 padded-behind xs zs = padded-same (xs ++ padded zs) (xs ++ zs) (same xs)
   where
     same : (xs : List ℤ) (i : ℕ) → i < 8 → column-of (xs ++ padded zs) i ≡ column-of (xs ++ zs) i
-    same [] i h = column-padded zs i h
+    same [] i h = column-of-padded zs i h
     same (x ∷ xs) zero h = refl
     same (x ∷ xs) (suc i) h = same xs i (omega arith)
 
-pub column-followed-front : (w : ℕ) (a b : List ℤ) (i : ℕ) → length a ≡ 8 → i < 8 → i < w → column-of (followed w a b) i ≡ column-of a i
-column-followed-front w a b i e h l =
-    column-padded (take w a ++ b) i h ∙ getD-append-left (take w a) b (pos 0) i (omega (arith, length-take w a)) ∙ getD-take w a i (pos 0) l
-
-pub column-followed-behind : (w : ℕ) (a b : List ℤ) (i : ℕ) → length a ≡ 8 → i < 8 → w ≤ i → column-of (followed w a b) i ≡ column-of b (i - w)
-column-followed-behind w a b i e h l =
-    column-padded (take w a ++ b) i h ∙ getD-append-right (take w a) b w i (pos 0) (omega (arith, length-take w a)) l
-
 pub column-from : (start first : ℕ) (a : List ℤ) (i : ℕ) → length a ≡ 8 → i < 8 → first ≡ min start 8 → column-of a (first + i) ≡ column-of (padded (drop start a)) i
-column-from start first a i e h m = by (cases-lt 8 start) ∙ sym (column-padded (drop start a) i h ∙ getD-drop start a i (pos 0))
+column-from start first a i e h m = by (cases-lt 8 start) ∙ sym (column-of-padded (drop start a) i h ∙ getD-drop start a i (pos 0))
   where
     by : (8 < start) ⊎ (start ≤ 8) → column-of a (first + i) ≡ column-of a (start + i)
     by (inl l) = getD-past a (first + i) (pos 0) (omega arith) ∙ sym (getD-past a (start + i) (pos 0) (omega arith))
@@ -98,8 +76,8 @@ exactly-take k zs =
 
     column : (i : ℕ) → i < k → i < 8 → column-of (exactly k (take k zs)) i ≡ column-of (exactly k zs) i
     column i l h =
-        getD-take k (padded (take k zs)) i (pos 0) l ∙ column-padded (take k zs) i h ∙ getD-take k zs i (pos 0) l
-        ∙ sym (getD-take k (padded zs) i (pos 0) l ∙ column-padded zs i h)
+        getD-take k (padded (take k zs)) i (pos 0) l ∙ column-of-padded (take k zs) i h ∙ getD-take k zs i (pos 0) l
+        ∙ sym (getD-take k (padded zs) i (pos 0) l ∙ column-of-padded zs i h)
 
 pub length-exactly : (k : ℕ) (zs : List ℤ) → k ≤ 8 → length (exactly k zs) ≡ k
 length-exactly k zs h = length-take k (padded zs) ∙ ap (min k) (length-padded zs) ∙ omega arith

@@ -5,3 +5,4 @@ pub mod Lookups
 pub mod Shifted
 pub mod Kept
 pub mod Answered
+pub mod After

@@ -4,6 +4,7 @@
 --     entry-of order k xs      the entry that has k's key
 --     place-of order k xs      where that entry stands
 --     smaller order k xs       how many entries have a smaller key than k
+--     first-after order k xs   the first entry with a greater key than k, or none
 --     with-entry order e xs    e in the place of the entry with e's key, or before the first entry with a greater key
 --     without-key order k xs   the other entries, where one has k's key
 use mathlib.Core.Bool.{Bool, true, false, cond}
@@ -37,6 +38,10 @@ module _ {E : Type 0} (order : E → E → Ordering) where
   abbrev pub smaller : E → List E → ℕ
   smaller k [] = 0
   smaller k (x ∷ xs) = by-order (order k x) (smaller k xs) (smaller k xs) (suc (smaller k xs))
+
+  abbrev pub first-after : E → List E → Option E
+  first-after k [] = None
+  first-after k (x ∷ xs) = by-order (order k x) (Some x) (first-after k xs) (first-after k xs)
 
   abbrev pub with-entry : E → List E → List E
   with-entry e [] = e ∷ []

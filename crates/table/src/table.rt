@@ -7,7 +7,7 @@ ghost use Rattle.std.specs.Finite.{nth};
 ghost use Rattle.std.specs.Options.{Cases as BySome};
 ghost use Rattle.std.specs.declared.option.Option.the-variants.{Some, None};
 ghost use Rattle.std.specs.declared.result.Result.the-variants.{Ok, Err};
-ghost use Rattle.table.specs.Entries.{place-of, smaller, with-entry, without-key};
+ghost use Rattle.table.specs.Entries.{place-of, smaller, first-after, with-entry, without-key};
 ghost use Rattle.bag.specs.Refusal.{left-by};
 ghost use Rattle.table.specs.Refusals.{refusal-in};
 ghost use Rattle.table.specs.Tables.{items, capacity, Holds, Sound, Same-run, add-answer};
@@ -77,6 +77,17 @@ impl<'a, E: Entry> Table<'a, E> {
         ensures answer { λ r. ⌜ (Sound order blank (now (self .entry)) → r ≡ place-of order (now (key .entry)) (items (now (self .entry)))) ⌝ }
     {
         self.look_up(key).found
+    }
+
+    // The first entry whose key is greater than the key of `key`, if there is one.
+    pub fn after(&self, key: &E) -> Option<E>
+        ensures answer { λ r. ⌜ (Sound order blank (now (self .entry)) → r ≡ first-after order (now (key .entry)) (items (now (self .entry)))) ⌝ }
+    {
+        let lookup = self.look_up(key);
+        match lookup.found {
+            Some(place) => self.get(place + 1),
+            None => self.get(lookup.place),
+        }
     }
 
     // Replaces the entry that has the key of `entry`, or else puts `entry` into order.

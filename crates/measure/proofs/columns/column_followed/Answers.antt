@@ -5,7 +5,7 @@ use mir.Syntax.{w32}
 use mir.Val.{SFits}
 use Rattle.std.proofs.shelf.Signed.{toZ-ofZ}
 use Rattle.bag.specs.Columns.{column-of}
-use Rattle.measure.proofs.Rows.{column-followed-front, column-followed-behind}
+use Rattle.bag.proofs.ColumnLaws.{column-followed-front, column-followed-behind}
 use Rattle.measure.proofs.columns.column_followed.Needs as need
 
 pub returns-then-i-width : need.returns-then-i-width
