@@ -2,7 +2,11 @@ use crate::frame::first_frame;
 use message::record::Record;
 use message::record_list::RecordList;
 use message::round_trip::rewrite;
+use plan::plan::Plan;
 use std::error::AnyError;
+
+// The program totals by `Sum`, which shows one column.
+const SHOWN_COLUMNS: u8 = 1;
 
 // No frame is longer, so every message finds room here when it is written again.
 const LONGEST_FRAME: usize = 65535;
@@ -60,19 +64,41 @@ fn show_message(rt: &LibcRuntime, number: usize, message: &[u8]) -> Result<(), A
     }
 }
 
-// Shows the plan's length and then message after message, to the end or to a frame that is not whole.
-pub fn show_input(rt: &LibcRuntime, input: &[u8]) -> Result<(), AnyError> {
-    let Some((plan, messages)) = first_frame(input) else {
-        return Ok(());
-    };
-    println!(rt, "plan of {} bytes", plan.len())?;
+// Checks the plan for a measure that shows one column, the sum, and says how many nodes it has; answers whether it is a plan.
+fn show_plan(rt: &LibcRuntime, bytes: &[u8]) -> Result<bool, AnyError> {
+    match Plan::check(bytes, SHOWN_COLUMNS) {
+        Ok(plan) => {
+            println!(rt, "plan of {} nodes", plan.len())?;
+            Ok(true)
+        }
+        Err(fault) => {
+            let (node, cause) = fault.place();
+            println!(rt, "plan refused {} at {} {}", fault.number(), node, cause)?;
+            Ok(false)
+        }
+    }
+}
+
+// Shows message after message, to the end or to a frame that is not whole.
+fn show_messages(rt: &LibcRuntime, messages: &[u8]) -> Result<(), AnyError> {
     let mut left = messages;
-    for number in 1..input.len() {
+    for number in 1..messages.len() {
         let Some((message, behind)) = first_frame(left) else {
             return Ok(());
         };
         left = behind;
         show_message(rt, number, message)?;
+    }
+    Ok(())
+}
+
+// Shows the plan and then the messages. A refused plan ends it, and so does, without a line, a plan's frame that is not whole.
+pub fn show_input(rt: &LibcRuntime, input: &[u8]) -> Result<(), AnyError> {
+    let Some((plan, messages)) = first_frame(input) else {
+        return Ok(());
+    };
+    if show_plan(rt, plan)? {
+        show_messages(rt, messages)?;
     }
     Ok(())
 }

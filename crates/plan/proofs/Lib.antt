@@ -1,0 +1,10 @@
+pub mod Cuts
+pub mod Fillings
+pub mod Growth
+pub mod Taken
+pub mod Items
+pub mod Fields
+pub mod Nodes
+pub mod Wholes
+pub mod Shown
+pub mod Sounds

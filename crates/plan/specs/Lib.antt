@@ -1,0 +1,9 @@
+pub mod Refusal
+pub mod Lawful
+pub mod Fields
+pub mod Check
+pub mod Encode
+pub mod Plans
+pub mod Sound
+pub mod Laws
+pub mod Afresh
