@@ -1,0 +1,9 @@
+pub mod Refusal
+pub mod Holding
+pub mod Laws
+pub mod Calls
+pub mod Ordered
+pub mod ByteLines
+pub mod ByteStored
+pub mod ByteStocks
+pub mod ByteSearch
