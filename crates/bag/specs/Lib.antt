@@ -11,3 +11,4 @@ pub mod Propagation
 pub mod Laws
 pub mod Cases
 pub mod Refusal
+pub mod Bytes

@@ -6,7 +6,7 @@ use mathlib.Core.List.{List}
 use mathlib.Core.Bool.{cond}
 use Rattle.std.specs.declared.option.Option.{Option}
 use Rattle.std.specs.declared.option.Option.the-variants.{Some, None}
-use Rattle.message.specs.Bytes.{first-two}
+use Rattle.bag.specs.Bytes.{first-two}
 use lib.Dec.{ltb}
 use lib.ListN.{length, take, drop}
 

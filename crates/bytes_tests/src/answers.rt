@@ -34,7 +34,14 @@ fn a_full_stock_swaps_a_line() -> Result<(), Fail> {
     check_eq(refusal(stock.put(0, &[1; 8], 1)), (0, 0))?;
     check_eq(refusal(stock.take(0, &[1; 8], 6)), (0, 0))?;
     check_eq(refusal(stock.put(0, &[2; 8], 1)), (0, 0))?;
-    check_eq((stock.count(0, &[1; 8]), stock.count(0, &[2; 8]), stock.count(15, &[1; 8])), (0, 1, 6))?;
+    check_eq(
+        (
+            stock.count(0, &[1; 8]),
+            stock.count(0, &[2; 8]),
+            stock.count(15, &[1; 8]),
+        ),
+        (0, 1, 6),
+    )?;
     check_eq((stock.lines(), stock.capacity()), (2, 2))
 }
 

@@ -17,7 +17,7 @@ use Rattle.std.proofs.shelf.Tests.{lt-ltb, le-leb, eqb-true, eqb-false, leb-tru
 use Rattle.std.specs.declared.option.Option.the-variants.{Some}
 use Rattle.std.specs.declared.result.Result.the-variants.{Ok}
 use Rattle.message.specs.declared.record.Record.{Record}
-use Rattle.message.specs.Bytes.{first-two, in-two}
+use Rattle.bag.specs.Bytes.{first-two, in-two}
 use Rattle.message.specs.Decode.{bit, column-field, count-field, node-field, columns, fields, column-allowed, columns-allowed, allowed, behind-map, decode}
 use Rattle.bag.specs.Bag.{is-zero}
 use Rattle.message.specs.Lawful.{column-lawful, columns-lawful, lawful, In-range}

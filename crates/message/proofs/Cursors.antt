@@ -11,7 +11,7 @@ use Rattle.bag.specs.Refusal.{Refusal}
 use Rattle.std.specs.Finite.{nth}
 use Rattle.message.specs.Reading.{Reading, ends, refused, item, reading, records-of, answer-at, first-records, Step, step, stand}
 use Rattle.message.proofs.Listings.{behind-ok}
-use Rattle.message.specs.Bytes.{Bytes}
+use Rattle.bag.specs.Bytes.{Bytes}
 use Rattle.message.specs.Encode.{encode, encode-all}
 use Rattle.message.specs.Laws.{Cursor-reads, Cursor-stands}
 use Rattle.message.proofs.Joins.{joined-append}

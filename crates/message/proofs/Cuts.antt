@@ -7,7 +7,7 @@ use lib.ListN.{length, getD, drop}
 use mir.Val.{toZ}
 use mir.Syntax.{w32}
 use Rattle.std.specs.declared.option.Option.the-variants.{Some}
-use Rattle.message.specs.Bytes.{first-four, first-two, first-one}
+use Rattle.bag.specs.Bytes.{first-four, first-two, first-one}
 
 pub first-four-is : (xs : List ℕ) → 4 ≤ length xs → first-four xs ≡ Some (toZ w32 (getD xs 0 0 * 16777216 + getD xs 1 0 * 65536 + getD xs 2 0 * 256 + getD xs 3 0), drop 4 xs)
 first-four-is [] h = absurd (omega arith)

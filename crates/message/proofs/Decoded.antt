@@ -18,7 +18,7 @@ use Rattle.std.specs.declared.option.Option.the-variants.{Some, None}
 use Rattle.std.specs.declared.result.Result.the-variants.{Ok, Err}
 use Rattle.message.specs.declared.record.Record.{Record}
 use Rattle.bag.specs.Refusal.{refusal}
-use Rattle.message.specs.Bytes.{in-four, in-two, Bytes}
+use Rattle.bag.specs.Bytes.{in-four, in-two, Bytes}
 use Rattle.message.specs.Decode.{then, bit, column-field, count-field, node-field, columns, fields, column-allowed, columns-allowed, allowed, judged, decode}
 use Rattle.bag.specs.Bag.{is-zero}
 use Rattle.message.specs.Lawful.{column-lawful, columns-lawful, lawful}

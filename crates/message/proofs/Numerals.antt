@@ -10,7 +10,7 @@ use mir.Syntax.{w32}
 use Rattle.std.proofs.shelf.Signed.{toZ-ofZ, ofZ-toZ, ints}
 use Rattle.std.proofs.shelf.Bits.{shr-shr, shr-split, shr-below}
 use Rattle.std.specs.declared.option.Option.the-variants.{Some}
-use Rattle.message.specs.Bytes.{first-four, first-two, in-four, in-two}
+use Rattle.bag.specs.Bytes.{first-four, first-two, in-four, in-two}
 
 -- a number of four bytes is the sum of its bytes
 digits : (n : ℕ) → n < 2 ^ 32 → n / 16777216 % 256 * 16777216 + n / 65536 % 256 * 65536 + n / 256 % 256 * 256 + n % 256 ≡ n

@@ -14,7 +14,7 @@ use Rattle.message.specs.declared.record.Record.{Record}
 use Rattle.bag.specs.Refusal.{Refusal, refusal}
 use Rattle.message.specs.Decode.{decode}
 use Rattle.message.specs.Reading.{Reading, ends, refused, item, proceed, reading-from, records-of, behind, Step, moved, step}
-use Rattle.message.specs.Bytes.{Bytes}
+use Rattle.bag.specs.Bytes.{Bytes}
 use Rattle.message.specs.Encode.{encode}
 use Rattle.message.proofs.Fronts.{decode-left, decode-place, dropped}
 use Rattle.message.proofs.Decoded.{decode-was}

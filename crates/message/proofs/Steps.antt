@@ -9,7 +9,7 @@ use Rattle.std.specs.declared.option.Option.{Option}
 use Rattle.std.specs.declared.option.Option.the-variants.{Some, None}
 use Rattle.std.specs.declared.result.Result.the-variants.{Err}
 use Rattle.message.specs.declared.record.Record.{Record}
-use Rattle.message.specs.Bytes.{first-two}
+use Rattle.bag.specs.Bytes.{first-two}
 use Rattle.bag.specs.Refusal.{refusal}
 use Rattle.message.specs.Decode.{fields, judged, decode}
 use Rattle.message.specs.Reading.{moved, step}

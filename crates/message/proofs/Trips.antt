@@ -15,7 +15,7 @@ use Rattle.std.specs.declared.result.Result.{Result}
 use Rattle.std.specs.declared.result.Result.the-variants.{Ok, Err}
 use lib.Dec.{ltb}
 use Rattle.message.specs.declared.record.Record.{Record}
-use Rattle.message.specs.Bytes.{Bytes}
+use Rattle.bag.specs.Bytes.{Bytes}
 use Rattle.bag.specs.Refusal.{Refusal, refusal}
 use Rattle.message.specs.Decode.{decode}
 use Rattle.message.specs.Lawful.{lawful, first-unlawful, In-range}

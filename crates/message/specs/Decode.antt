@@ -14,7 +14,7 @@ use Rattle.std.specs.declared.option.Option.the-variants.{Some, None}
 use Rattle.std.specs.declared.result.Result.{Result}
 use Rattle.std.specs.declared.result.Result.the-variants.{Ok, Err}
 use Rattle.message.specs.declared.record.Record.{Record}
-use Rattle.message.specs.Bytes.{first-four, first-two, first-one}
+use Rattle.bag.specs.Bytes.{first-four, first-two, first-one}
 use Rattle.bag.specs.Refusal.{Refusal}
 use Rattle.message.specs.declared.fault.ReadFault.the-variants.{Torn, Map}
 use Rattle.message.specs.Refusal.{read-refusal}

@@ -11,7 +11,7 @@ use mathlib.Core.List.{List, [], _∷_, _++_, map}
 use mathlib.Core.Bool.{Bool, true, false, cond, not}
 use Rattle.std.specs.shelf.Lists.{joined}
 use Rattle.message.specs.declared.record.Record.{Record}
-use Rattle.message.specs.Bytes.{in-four, in-two}
+use Rattle.bag.specs.Bytes.{in-four, in-two}
 use Rattle.bag.specs.Bag.{is-zero}
 use lib.Dec.{eqb}
 use lib.IntN.{ℤ}

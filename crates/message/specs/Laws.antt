@@ -15,7 +15,7 @@ use Rattle.std.specs.shelf.Lists.{All}
 use Rattle.bag.specs.Refusal.{Refusal}
 use Rattle.message.specs.declared.record.Record.{Record}
 use Rattle.message.specs.Limits.{max-records}
-use Rattle.message.specs.Bytes.{Bytes}
+use Rattle.bag.specs.Bytes.{Bytes}
 use Rattle.message.specs.Lawful.{first-unlawful, In-range}
 use Rattle.message.specs.Encode.{encode-all}
 use Rattle.message.specs.Reading.{reading, records-of, answer-at, first-records, step, stand}

@@ -1,5 +1,4 @@
 pub mod Limits
-pub mod Bytes
 pub mod Refusal
 pub mod Lawful
 pub mod Decode

@@ -23,7 +23,8 @@ use Rattle.bag.specs.declared.condition.Relation.the-variants.{Less, LessOrEqua
 use Rattle.plan.specs.declared.node.ColumnPair.{ColumnPair}
 use Rattle.plan.specs.Lawful.{columns-fit, pair-fits, pair-blank, pairs-fit, operand-fits, operand-in-range}
 use Rattle.plan.specs.Fields.{then, when, octet, lower, column, within, relation, word, operand, columns, column-pair, no-pair, pairs, outside, not-lower, past-width}
-use Rattle.plan.specs.Encode.{relation-number, in-four, operand-bytes, pair-bytes, Bytes}
+use Rattle.bag.specs.Bytes.{in-four, Bytes}
+use Rattle.plan.specs.Encode.{relation-number, operand-bytes, pair-bytes}
 use Rattle.plan.proofs.Items.{then-ok, when-ok, ok-same, listed-was, listed-read}
 
 pub octet-was : (bytes : List ℕ) (p : ℕ × List ℕ) → octet bytes ≡ Ok p → bytes ≡ p .0 ∷ p .1

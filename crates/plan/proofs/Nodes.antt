@@ -13,7 +13,8 @@ use Rattle.plan.specs.declared.node.Node.the-variants.{Base, Keep, Pick, Pair,
 use Rattle.plan.specs.Lawful.{fits, columns-fit, pairs-fit, operand-fits, In-range}
 use Rattle.plan.specs.Fields.{octet, lower, column, within, relation, operand, columns, pairs, bad-width}
 use Rattle.plan.specs.Check.{base, keep, pick, pair, equal-sides, both, less, total, behind, node}
-use Rattle.plan.specs.Encode.{relation-number, encode, Bytes}
+use Rattle.bag.specs.Bytes.{Bytes}
+use Rattle.plan.specs.Encode.{relation-number, encode}
 use Rattle.plan.proofs.Items.{then-ok, when-ok, ok-same}
 use Rattle.plan.proofs.Fields.{octet-was, lower-was, column-was, within-was, relation-was, relation-read, operand-was, operand-read, columns-was, columns-read, pairs-was, pairs-read, by-number}
 

@@ -15,7 +15,8 @@ use Rattle.plan.specs.Refusal.{Refusal, refused}
 use Rattle.plan.specs.Lawful.{width, fits, widths, lawful, In-range, Lawful-plan}
 use Rattle.plan.specs.Fields.{Read, bad-count}
 use Rattle.plan.specs.Check.{node, more, next, nodes, checked}
-use Rattle.plan.specs.Encode.{encode, encode-all, Bytes}
+use Rattle.bag.specs.Bytes.{Bytes}
+use Rattle.plan.specs.Encode.{encode, encode-all}
 use Rattle.plan.specs.Laws.{Accepted-are-encodings, One-to-one, Broken-at, Refused-where-broken}
 use Rattle.plan.proofs.Nodes.{node-was, node-read}
 

@@ -1,18 +1,14 @@
 -- The bytes of a plan's nodes.
 --
 --   relation-number   0 <, 1 ≤, 2 =, 3 ≠, 4 ≥, 5 >
---   in-four           a signed number as four bytes, the highest byte first
 --   operand-bytes     kind 0 and a number, or kind 1 and a column
 --   encode            a node's bytes: its operator, then its fields
 --   encode-all        the bytes of all nodes, one behind the other
---   Bytes             every number of a list is a byte
-use Prim.Native.Nat.{ℕ, _/_, _%_, _<_}
+use Prim.Native.Nat.{ℕ}
 use mathlib.Core.List.{List, [], _∷_}
-use lib.IntN.{ℤ}
 use lib.ListN.{take}
-use mir.Val.{ofZ}
-use mir.Syntax.{w32}
-use Rattle.std.specs.shelf.Lists.{All, joined}
+use Rattle.std.specs.shelf.Lists.{joined}
+use Rattle.bag.specs.Bytes.{in-four}
 use Rattle.bag.specs.declared.condition.Operand.{Operand}
 use Rattle.bag.specs.declared.condition.Operand.the-variants.{Constant, Column}
 use Rattle.bag.specs.declared.condition.Relation.{Relation}
@@ -28,10 +24,6 @@ relation-number relations.Equal = 2
 relation-number relations.NotEqual = 3
 relation-number relations.GreaterOrEqual = 4
 relation-number relations.Greater = 5
-
-abbrev pub in-four : ℤ → List ℕ
-in-four v =
-    (ofZ w32 v / 16777216 % 256) ∷ (ofZ w32 v / 65536 % 256) ∷ (ofZ w32 v / 256 % 256) ∷ (ofZ w32 v % 256) ∷ []
 
 abbrev pub operand-bytes : Operand → List ℕ
 operand-bytes (Constant v) = 0 ∷ in-four v
@@ -51,6 +43,3 @@ encode (Total c j n columns) = 6 ∷ c ∷ j ∷ n ∷ take n columns
 
 abbrev pub encode-all : List Node → List ℕ
 encode-all xs = joined encode xs
-
-abbrev pub Bytes : List ℕ → Type 0
-Bytes bytes = All (λ b. b < 256) bytes

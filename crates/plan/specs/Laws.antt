@@ -16,7 +16,8 @@ use Rattle.plan.specs.declared.node.Node.{Node}
 use Rattle.plan.specs.Refusal.{Refusal}
 use Rattle.plan.specs.Lawful.{fits, widths, lawful, In-range, Lawful-plan}
 use Rattle.plan.specs.Check.{checked}
-use Rattle.plan.specs.Encode.{encode, encode-all, Bytes}
+use Rattle.bag.specs.Bytes.{Bytes}
+use Rattle.plan.specs.Encode.{encode, encode-all}
 
 abbrev pub Accepted-are-encodings : Type 0
 Accepted-are-encodings =

@@ -2,13 +2,10 @@
 --     copies-past, next-past      shelves above 15
 --     copies-some, copies-none    the count, where the key has a place and where it has none
 --     next-some, next-other, next-none      the next row: that of the first line with a greater key, if it stands on the shelf
-use mathlib.Core.Path.{_≡_, refl, sym, ap, ap₂, _∙_, subst}
-use mathlib.Core.Bool.{true, false, cond}
-use mathlib.Core.List.{List, []}
+use mathlib.Core.Path.{_≡_, refl, sym, ap, _∙_}
+use mathlib.Core.Bool.{cond}
 use Prim.Native.Nat.{ℕ, _<_, _≤_}
-use lib.Dec.{eqb}
 use lib.IntN.{natAbs}
-use lib.ListN.{getD}
 use Rattle.std.specs.declared.option.Option.{Option}
 use Rattle.std.specs.declared.option.Option.the-variants.{Some, None}
 use Rattle.std.specs.Finite.{nth}
@@ -18,12 +15,12 @@ use Rattle.std.proofs.shelf.Lawful.{sorted-from-test}
 use Rattle.bag.specs.declared.lines.StockLine.{StockLine}
 use Rattle.bag.specs.Order.{Row, stock-line-order}
 use Rattle.bag.specs.Bag.{count, next}
-use Rattle.table.specs.Entries.{entry-of, place-of, first-after}
+use Rattle.table.specs.Entries.{place-of, first-after}
 use Rattle.table.specs.Tables.{items}
 use Rattle.table.proofs.Lookups.{place-holds, no-place}
 use Rattle.stock.specs.declared.ordered.OrderedStock.{OrderedStock}
 use Rattle.stock.specs.Holding.{copies, next-answer, row-and-count}
-use Rattle.stock.specs.Ordered.{as-line, on-shelf, held, Sound-ordered}
+use Rattle.stock.specs.Ordered.{as-line, held, Sound-ordered}
 use Rattle.stock.proofs.OnShelf.{found-count, next-on, next-on-shelf}
 use Rattle.stock.proofs.Shelves.{shelf-at, shelf-past}
 use Rattle.stock.proofs.SoundOrdered.{copies-found}

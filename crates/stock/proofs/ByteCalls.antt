@@ -19,7 +19,8 @@ use Rattle.bag.specs.Refusal.{refusal}
 use Rattle.bag.specs.Columns.{Is-row}
 use Rattle.stock.specs.Holding.{copies}
 use Rattle.stock.specs.ByteLines.{line-bytes, line-at, stored-in, laid, freed-bytes}
-use Rattle.stock.specs.ByteStored.{Stored, Lawful-line, line-of, new-line, freed}
+use Rattle.stock.specs.Holding.{Lawful-line}
+use Rattle.stock.specs.ByteStored.{Stored, line-of, new-line, freed}
 use Rattle.stock.specs.ByteStocks.{capacity-in, held-in, Sound-lines, Put-left, Take-left}
 use Rattle.stock.specs.ByteSearch.{Nowhere, At-place}
 use Rattle.stock.proofs.ByteLawful.{copies-found, copies-none}

@@ -22,8 +22,10 @@ use Rattle.bag.specs.Order.{Row}
 use Rattle.bag.specs.Lines.{blank-stock-line}
 use Rattle.bag.specs.declared.lines.StockLine.{StockLine}
 use Rattle.bag.specs.Columns.{Is-row}
-use Rattle.stock.specs.ByteLines.{in-four, in-two, four-at, two-at, line-bytes, layout, row-at, line-at, stored-in}
-use Rattle.stock.specs.ByteStored.{Stored, Lawful-line, line-of}
+use Rattle.bag.specs.Bytes.{in-four, in-two}
+use Rattle.stock.specs.ByteLines.{four-at, two-at, line-bytes, layout, row-at, line-at, stored-in}
+use Rattle.stock.specs.Holding.{Lawful-line}
+use Rattle.stock.specs.ByteStored.{Stored, line-of}
 use Rattle.stock.proofs.ByteJoins.{length-columns}
 
 -- a number of four bytes is the sum of its bytes

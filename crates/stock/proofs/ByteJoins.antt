@@ -9,7 +9,7 @@ use lib.IntN.{ℤ}
 use lib.ListN.{length, getD, take, length-append}
 use Rattle.std.specs.shelf.Lists.{joined}
 use Rattle.std.proofs.shelf.Lists.{joined-more, take-more, length-take-le}
-use Rattle.stock.specs.ByteLines.{in-four}
+use Rattle.bag.specs.Bytes.{in-four}
 
 pub length-columns : (r : List ℤ) → length (joined in-four r) ≡ 4 * length r
 length-columns [] = refl

@@ -27,7 +27,8 @@ use Rattle.bag.specs.Refusal.{Refusal}
 use Rattle.stock.specs.Refusal.{told}
 use Rattle.stock.specs.Holding.{Holding, Lawful-holding, empty-holding}
 use Rattle.stock.specs.ByteLines.{line-bytes, layout, padded, line-at, stored-in, laid, freed-bytes}
-use Rattle.stock.specs.ByteStored.{Stored, Lawful-line, line-of, Apart, shelves-of, bag-on, holding-of, is-equal, has-key, freed}
+use Rattle.stock.specs.Holding.{Lawful-line}
+use Rattle.stock.specs.ByteStored.{Stored, line-of, Apart, shelves-of, bag-on, holding-of, is-equal, has-key, freed}
 use Rattle.stock.specs.ByteStocks.{capacity-in, held-in, Sound-lines, Put-left, Take-left}
 use Rattle.stock.specs.ByteSearch.{Nowhere, At-place}
 use Rattle.stock.proofs.ByteCodec.{stored-back}

@@ -28,7 +28,8 @@ use Rattle.bag.proofs.EachRow.{rows-collect, rows-++}
 use Rattle.bag.proofs.TestsAtChanges.{bag-from-counts}
 use Rattle.bag.specs.Columns.{Is-row}
 use Rattle.stock.specs.Holding.{Lawful-holding, copies, lines-on, row-and-count, next-answer}
-use Rattle.stock.specs.ByteStored.{Stored, Lawful-line, line-of, Apart, line-on, bag-on, shelves-of, holding-of}
+use Rattle.stock.specs.Holding.{Lawful-line}
+use Rattle.stock.specs.ByteStored.{Stored, line-of, Apart, line-on, bag-on, shelves-of, holding-of}
 use Rattle.stock.proofs.ByteTally.{tally, Absent, tally-low, tally-most, tally-found, tally-none, some-copies, any-shelf, canonical-bag, canonical-shelf, count-bag, shelf-count, shelves-sixteen, lines-are-length}
 
 abs-most : (z : ℤ) (n : ℕ) → pos 0 ≤ℤ z → z ≤ℤ pos n → natAbs z ≤ n

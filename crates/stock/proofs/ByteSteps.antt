@@ -31,7 +31,8 @@ use Rattle.bag.proofs.RowOrder.{order-equal, order-itself}
 use Rattle.bag.specs.Refusal.{Refusal, refusal, left-by}
 use Rattle.bag.specs.Columns.{Is-row}
 use Rattle.stock.specs.Holding.{Holding, copies, lines-of, with-copies, lacks-room, put-answer, after-put, take-answer, after-take}
-use Rattle.stock.specs.ByteStored.{Stored, Lawful-line, line-of, Apart, put-on, shelves-of, holding-of, is-equal, has-key, place-of, new-line, added-at, freed, removed-at, lines-after-put, lines-after-take}
+use Rattle.stock.specs.Holding.{Lawful-line}
+use Rattle.stock.specs.ByteStored.{Stored, line-of, Apart, put-on, shelves-of, holding-of, is-equal, has-key, place-of, new-line, added-at, freed, removed-at, lines-after-put, lines-after-take}
 use Rattle.stock.proofs.ByteTally.{tally, worth, line-worth, Absent, worth-adds, tally-push, tally-set, shelves-moved, lines-are-length}
 use Rattle.stock.proofs.ByteLawful.{copies-found, copies-none}
 

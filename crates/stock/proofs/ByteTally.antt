@@ -36,7 +36,8 @@ use Rattle.bag.proofs.EachRow.{rows-collect, rows-++}
 use Rattle.bag.proofs.TestsAtChanges.{bag-from-counts}
 use Rattle.bag.specs.Columns.{Is-row}
 use Rattle.stock.specs.Holding.{Lawful-holding, lines-on}
-use Rattle.stock.specs.ByteStored.{Stored, Lawful-line, line-of, Apart, put-on, line-on, bag-on, shelves-of, holding-of}
+use Rattle.stock.specs.Holding.{Lawful-line}
+use Rattle.stock.specs.ByteStored.{Stored, line-of, Apart, put-on, line-on, bag-on, shelves-of, holding-of}
 
 abbrev pub tally : ℕ → Row → Stored → ℤ
 tally t q ls = count (joined (line-on t) ls) q

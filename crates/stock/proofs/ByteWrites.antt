@@ -13,7 +13,8 @@ use Rattle.std.proofs.shelf.Elements.{all-take, all-getD}
 use Rattle.bag.specs.Lines.{blank-stock-line}
 use Rattle.bag.specs.declared.lines.StockLine.{StockLine}
 use Rattle.stock.specs.ByteLines.{line-bytes, layout, laid}
-use Rattle.stock.specs.ByteStored.{Stored, Lawful-line, line-of}
+use Rattle.stock.specs.Holding.{Lawful-line}
+use Rattle.stock.specs.ByteStored.{Stored, line-of}
 use Rattle.stock.proofs.ByteCodec.{length-line, length-layout}
 
 laid-mid : (a m z n : List ℕ) (at : ℕ) → length a ≡ at → length m ≡ length n → laid (a ++ (m ++ z)) at n ≡ a ++ (n ++ z)

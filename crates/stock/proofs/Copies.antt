@@ -2,17 +2,16 @@
 --     put-says, take-says      what an accepted put or take says of the holding
 --     left-either              what holds of both values holds of what a call leaves
 --     copies-here, copies-elsewhere, lawful-moved, lines-moved      the counts, the bounds and the lines after
-use mathlib.Core.Path.{_≡_, refl, sym, ap, ap₂, _∙_, subst}
+use mathlib.Core.Path.{_≡_, refl, sym, ap, _∙_, subst}
 use mathlib.Core.Bool.{Bool, true, false, cond}
-use mathlib.Core.Logic.{_⊎_, inl, inr, ⊎-elim}
+use mathlib.Core.Logic.{⊎-elim}
 use mathlib.Core.List.{List, [], _∷_}
 use Prim.Native.Nat.{ℕ, zero, suc, _+_, _<_, _≤_}
 use native.Mathlib.Omega.{arith}
 use lib.Dec.{ltb}
 use lib.ListN.{length, getD, set}
-use lib.IntN.{ℤ, pos, negsuc, natAbs, _+ℤ_, +ℤ-idl, +ℤ-idr}
+use lib.IntN.{ℤ, pos, negsuc, natAbs, _+ℤ_, +ℤ-idl}
 use lib.Signed.{_≤ℤ_, _<ℤ_}
-use Rattle.std.specs.declared.cmp.Ordering.{Ordering}
 use Rattle.std.specs.declared.cmp.Ordering.the-variants.{Equal}
 use Rattle.std.specs.declared.result.Result.{Result}
 use Rattle.std.specs.declared.result.Result.the-variants.{Ok, Err}
@@ -20,7 +19,7 @@ use Rattle.std.proofs.shelf.Signed.{ints}
 use Rattle.std.proofs.shelf.Lists.{length-set, getD-set-same, getD-set-other}
 use Rattle.std.proofs.shelf.Tests.{ltb-false, cases-eq}
 use Rattle.bag.specs.Order.{Row, row-order}
-use Rattle.bag.specs.Bag.{Line, Lines, is-zero, is-positive, if-equal, count, add-copies, Canonical, Positive, Is-bag, Each-row}
+use Rattle.bag.specs.Bag.{Lines, is-positive, if-equal, count, add-copies, Canonical, Positive, Is-bag, Each-row}
 use Rattle.bag.proofs.RowOrder.{order-itself, order-equal}
 use Rattle.bag.proofs.Numbers.{not-zero, above-positive}
 use Rattle.bag.proofs.CanonicalForm.{canonical-add-copies, count-before, count-head}

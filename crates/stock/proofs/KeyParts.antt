@@ -4,7 +4,7 @@
 --     same-shelf          on one shelf the rows decide
 --     same-key-means, other-shelf, other-row      when two lines have equal keys
 --     rows-decide         comparing two rows decides whether they are the same
-use mathlib.Core.Path.{_≡_, refl, sym, ap, ap₂, _∙_, subst}
+use mathlib.Core.Path.{_≡_, refl, sym, ap, _∙_}
 use mathlib.Core.Bool.{true, false}
 use mathlib.Core.Logic.{_⊎_, inl, inr}
 use Prim.Native.Nat.{ℕ, _<_}

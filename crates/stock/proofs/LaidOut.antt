@@ -1,20 +1,17 @@
 -- Sorting ascending lines onto shelves and laying the shelves out again gives the lines. Assumes nothing.
 --     laid-out-again       it does, for the n shelves from s on that hold all lines
 --     length-laid-out      as many lines are laid out as the bags have
-use mathlib.Core.Path.{_≡_, refl, sym, ap, ap₂, _∙_, subst}
+use mathlib.Core.Path.{_≡_, refl, sym, ap, ap₂, _∙_}
 use mathlib.Core.Bool.{Bool, true, false, cond}
-use mathlib.Core.Logic.{_⊎_, inl, inr, ⊎-elim}
 use mathlib.Core.List.{List, [], _∷_, _++_}
 use Prim.Native.Nat.{ℕ, zero, suc, _+_, _<_, _≤_}
 use native.Mathlib.Omega.{arith}
 use lib.Dec.{eqb}
 use lib.ListN.{length}
-use lib.IntN.{natAbs}
-use Rattle.std.specs.declared.cmp.Ordering.the-variants.{Less}
 use Rattle.std.specs.Finite.{All}
 use Rattle.std.specs.Sorted.{Sorted}
 use Rattle.std.proofs.shelf.Lists.{length-append}
-use Rattle.std.proofs.shelf.Tests.{eqb-true, eqb-false, eq-eqb, ne-eqb}
+use Rattle.std.proofs.shelf.Tests.{eqb-true, eqb-false, ne-eqb}
 use Rattle.bag.specs.declared.lines.StockLine.{StockLine}
 use Rattle.bag.specs.Order.{stock-line-order}
 use Rattle.bag.specs.Bag.{Lines}

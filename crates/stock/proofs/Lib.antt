@@ -21,3 +21,14 @@ pub mod ByteSteps
 pub mod ByteKept
 pub mod ByteBest
 pub mod ByteCalls
+pub mod PendingKeys
+pub mod PendingPlaces
+pub mod PendingNext
+pub mod PendingEdits
+pub mod PendingSum
+pub mod PendingLawful
+pub mod SettlingSteps
+pub mod SettlingWhole
+pub mod PendingNoted
+pub mod PendingCalls
+pub mod PendingWalk

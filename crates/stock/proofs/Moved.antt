@@ -2,11 +2,11 @@
 --     Done a b h answer      b is sound and means h, and the answer is as said
 --     put-done, take-done, take-freed      a line stored anew by a put or a take, or taken out
 --     nothing-put, nothing-taken           0 copies
-use mathlib.Core.Path.{_≡_, refl, sym, ap, ap₂, _∙_, subst}
-use mathlib.Core.Logic.{_⊎_, inl, inr}
+use mathlib.Core.Path.{_≡_, sym, ap, _∙_}
+use mathlib.Core.Logic.{inl, inr}
 use Prim.Native.Nat.{ℕ, _+_, _-_, _<_, _≤_}
 use native.Mathlib.Omega.{arith}
-use lib.IntN.{ℤ, pos, negℤ, _+ℤ_}
+use lib.IntN.{pos, negℤ, _+ℤ_}
 use Rattle.std.proofs.shelf.Signed.{ints}
 use Rattle.std.specs.declared.result.Result.{Result}
 use Rattle.std.specs.declared.result.Result.the-variants.{Ok}
@@ -22,7 +22,7 @@ use Rattle.bag.specs.Columns.{Is-row}
 use Rattle.stock.specs.Holding.{Holding, copies, shelf-of, with-copies, put-answer, after-put, take-answer, after-take}
 use Rattle.stock.specs.Ordered.{held, Sound-ordered}
 use Rattle.stock.proofs.Accepted.{Room-for, count-is-copies, none-more, put-accepted, take-accepted, left-by-put, left-by-take}
-use Rattle.stock.proofs.Stored.{Changed, stored, freed}
+use Rattle.stock.proofs.Stored.{stored, freed}
 
 pub record Done (b : OrderedStock) (h : Holding) (answer : Result (Unit {0}) Refusal) : Type 0 where
   pub sound : Sound-ordered b

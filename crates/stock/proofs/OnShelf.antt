@@ -4,9 +4,9 @@
 --     none-on-shelf                  no line there, where all stand on higher shelves
 --     bag-on-shelf, rows-on-shelf    it is a bag, of rows
 --     next-on, next-on-shelf         the next row is that of the first line with a greater key, where that stands on the shelf
-use mathlib.Core.Path.{_≡_, refl, sym, ap, ap₂, _∙_, subst}
+use mathlib.Core.Path.{_≡_, refl, sym, ap, ap₂, _∙_}
 use mathlib.Core.Bool.{Bool, true, false, cond}
-use mathlib.Core.Logic.{_⊎_, inl, inr, ⊎-elim}
+use mathlib.Core.Logic.{_⊎_, inl, inr}
 use mathlib.Core.List.{List, [], _∷_}
 use Prim.Native.Nat.{ℕ, zero, suc, _<_, _≤_}
 use native.Mathlib.Omega.{arith}
@@ -19,10 +19,10 @@ use Rattle.std.specs.declared.option.Option.the-variants.{Some, None}
 use Rattle.std.specs.Finite.{All}
 use Rattle.std.specs.Sorted.{Sorted}
 use Rattle.std.specs.Orderings.{isEq}
-use Rattle.std.proofs.shelf.Tests.{eqb-true, eqb-false, eq-eqb, ne-eqb}
+use Rattle.std.proofs.shelf.Tests.{eqb-true, eq-eqb, ne-eqb}
 use Rattle.std.proofs.shelf.Lawful.{sorted-from-test}
 use Rattle.bag.specs.declared.lines.StockLine.{StockLine}
-use Rattle.bag.specs.Order.{Row, row-order, stock-line-order}
+use Rattle.bag.specs.Order.{row-order, stock-line-order}
 use Rattle.bag.specs.Bag.{Line, Lines, is-zero, is-positive, if-equal, if-less, count, next, Before, Canonical, Positive, Is-bag, Each-row}
 use Rattle.bag.proofs.RowOrder.{order-itself, order-equal}
 use Rattle.table.specs.Order.{Lawful, by-order, same-key}
@@ -30,7 +30,8 @@ use Rattle.table.specs.Entries.{Ascending, entry-of, first-after}
 use Rattle.table.proofs.Located.{ascending-tail}
 use Rattle.table.proofs.Lookups.{none-behind}
 use Rattle.bag.specs.Columns.{Is-row}
-use Rattle.stock.specs.Ordered.{as-line, on-shelf, Lawful-line}
+use Rattle.stock.specs.Holding.{Lawful-line}
+use Rattle.stock.specs.Ordered.{as-line, on-shelf}
 use Rattle.stock.proofs.KeyParts.{Says, key-says, same-shelf, same-key-means}
 
 abbrev pub found-count : Option StockLine → ℕ

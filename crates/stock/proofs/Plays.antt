@@ -4,10 +4,10 @@
 --     compared-none, compared-more, compared-all      before the first call, after one more, and after the last
 --     after-more, after-all      what a list of calls leaves, call by call
 --     next-call            what is left begins with the next call
-use mathlib.Core.Path.{_≡_, refl, sym, ap, ap₂, _∙_, subst}
+use mathlib.Core.Path.{_≡_, refl, sym, ap, ap₂, _∙_}
 use mathlib.Core.Bool.{Bool, true, false, _&&_}
 use mathlib.Core.List.{List, [], _∷_}
-use Prim.Native.Nat.{ℕ, suc, _+_, _<_, _≤_}
+use Prim.Native.Nat.{ℕ, _+_, _<_}
 use native.Mathlib.Omega.{arith}
 use native.Mathlib.Numerals.{add-one}
 use lib.ListN.{length, drop, getD}
@@ -16,7 +16,7 @@ use Rattle.std.specs.Orderings.{Decides}
 use Rattle.std.specs.declared.result.Result.{Result}
 use Rattle.std.specs.declared.result.Result.the-variants.{Ok, Err}
 use Rattle.bag.specs.Refusal.{Refusal, left-by}
-use Rattle.stock.specs.Holding.{Holding, put-answer, take-answer, with-copies}
+use Rattle.stock.specs.Holding.{Holding, put-answer, take-answer}
 use Rattle.stock.specs.Calls.{Answer, call-answer, after-call, answers, after-calls, Stocks-alike}
 use Rattle.stock.specs.declared.call.StockCall.{StockCall}
 use Rattle.stock.specs.declared.call.StockCall.the-variants as calls

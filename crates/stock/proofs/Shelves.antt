@@ -3,9 +3,9 @@
 --     no-lines             they are empty where there is no line
 --     one-key-changed      where only one key's answer changes, only its row changes its count
 --     lawful-entry, absent-count      what looking up says of counts
-use mathlib.Core.Path.{_≡_, refl, sym, ap, ap₂, _∙_, subst}
+use mathlib.Core.Path.{_≡_, refl, sym, ap, _∙_, subst}
 use mathlib.Core.Bool.{Bool, true, false, cond}
-use mathlib.Core.Logic.{_⊎_, inl, inr, ⊎-elim}
+use mathlib.Core.Logic.{⊎-elim}
 use mathlib.Core.List.{List, [], _∷_}
 use Prim.Native.Nat.{ℕ, zero, suc, _+_, _<_, _≤_}
 use native.Mathlib.Omega.{arith}
@@ -20,14 +20,15 @@ use Rattle.std.proofs.shelf.Lists.{length-set, getD-set-same, getD-set-other, g
 use Rattle.std.proofs.shelf.Tests.{cases-eq}
 use Rattle.bag.specs.declared.lines.StockLine.{StockLine}
 use Rattle.bag.specs.Order.{Row, row-order, stock-line-order}
-use Rattle.bag.specs.Bag.{Lines, if-equal, count, add-copies, Canonical}
+use Rattle.bag.specs.Bag.{Lines, if-equal, count, add-copies}
 use Rattle.bag.proofs.RowOrder.{order-itself, order-equal}
 use Rattle.bag.proofs.CanonicalForm.{canonical-add-copies, equal-counts}
 use Rattle.bag.proofs.Integers.{count-add-copies}
 use Rattle.table.specs.Order.{Lawful, same-key}
 use Rattle.table.specs.Entries.{Ascending, has-key, entry-of}
 use Rattle.table.proofs.Lookups.{has-key-entry}
-use Rattle.stock.specs.Ordered.{on-shelf, shelves-from, shelves-of, Lawful-line}
+use Rattle.stock.specs.Holding.{Lawful-line}
+use Rattle.stock.specs.Ordered.{on-shelf, shelves-from, shelves-of}
 use Rattle.stock.proofs.KeyParts.{other-shelf, other-row}
 use Rattle.stock.proofs.OnShelf.{found-count, not-equal, equal-by, count-on-shelf, bag-on-shelf}
 

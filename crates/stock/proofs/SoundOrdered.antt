@@ -4,11 +4,11 @@
 --     lines-held         there are as many lines as the table has entries
 --     copies-found       the count of a row is that of the line that its key finds
 use mathlib.Core.Path.{_≡_, refl, sym, ap, ap₂, _∙_, subst}
-use mathlib.Core.Logic.{_⊎_, inl, inr, ⊎-elim}
+use mathlib.Core.Logic.{⊎-elim}
 use mathlib.Core.List.{List, [], _∷_, _++_}
-use Prim.Native.Nat.{ℕ, _-_, _<_, _≤_, min}
+use Prim.Native.Nat.{ℕ, _-_, _<_, _≤_}
 use native.Mathlib.Omega.{arith}
-use lib.ListN.{length, getD, take, replicate}
+use lib.ListN.{length, getD, replicate}
 use lib.IntN.{pos, natAbs}
 use denote.Ref.{now}
 use Rattle.std.specs.Finite.{All}
@@ -18,7 +18,7 @@ use Rattle.std.proofs.shelf.Lawful.{sorted-from-test}
 use Rattle.bag.specs.declared.lines.StockLine.{StockLine}
 use Rattle.bag.specs.Lines.{blank-stock-line}
 use Rattle.bag.specs.Order.{Row, stock-line-order}
-use Rattle.bag.specs.Bag.{Lines, count, Is-bag, Each-row}
+use Rattle.bag.specs.Bag.{count, Is-bag, Each-row}
 use Rattle.bag.proofs.KeyOrder.{stock-lines-are-ordered-by-key}
 use Rattle.table.specs.Order.{Lawful}
 use Rattle.table.specs.Entries.{entry-of}
@@ -26,8 +26,9 @@ use Rattle.table.specs.Tables.{items, capacity, Sound}
 use Rattle.table.proofs.Ordered.{lawful-from-keys}
 use Rattle.stock.specs.declared.ordered.OrderedStock.{OrderedStock}
 use Rattle.bag.specs.Columns.{Is-row}
-use Rattle.stock.specs.Holding.{Lawful-holding, lines-on, copies, lines-of}
-use Rattle.stock.specs.Ordered.{on-shelf, shelves-of, laid-out, held, Lawful-line, Sound-ordered}
+use Rattle.stock.specs.Holding.{Lawful-holding, copies, lines-of}
+use Rattle.stock.specs.Holding.{Lawful-line}
+use Rattle.stock.specs.Ordered.{on-shelf, shelves-of, laid-out, held, Sound-ordered}
 use Rattle.stock.proofs.OnShelf.{found-count, count-on-shelf, bag-on-shelf, rows-on-shelf}
 use Rattle.stock.proofs.LaidOut.{Within, laid-out-again, length-laid-out}
 use Rattle.stock.proofs.Shelves.{length-shelves, shelf-at, shelf-past, most-counted}

@@ -1,28 +1,27 @@
 -- The laws of what a stock means. Assumes nothing.
 --     stock-laws      all of them
-use mathlib.Core.Path.{_≡_, refl, sym, ap, ap₂, _∙_, subst}
-use mathlib.Core.Bool.{Bool, true, false, _&&_}
+use mathlib.Core.Path.{_≡_, refl, sym, ap, _∙_, subst}
+use mathlib.Core.Bool.{false}
 use mathlib.Core.Logic.{_⊎_, inl, inr, ⊎-elim}
-use mathlib.Core.List.{List, []}
+use mathlib.Core.List.{[]}
 use Prim.Native.Nat.{ℕ, zero, suc, _+_, _-_, _<_, _≤_}
 use native.Mathlib.Omega.{arith}
 use lib.Dec.{eqb}
-use lib.ListN.{length, getD}
 use lib.IntN.{ℤ, pos, negsuc, negℤ, natAbs, _+ℤ_, +ℤ-comm}
 use mir.Val.{SFits}
 use mir.Syntax.{w32}
 use mir.Facts.{sfits-lit}
 use Rattle.std.specs.declared.option.Option.the-variants.{None}
-use Rattle.std.specs.declared.result.Result.the-variants.{Ok, Err}
+use Rattle.std.specs.declared.result.Result.the-variants.{Ok}
 use Rattle.std.specs.Options.{mapped}
 use Rattle.std.proofs.shelf.Signed.{ints}
 use Rattle.std.proofs.shelf.Lists.{getD-past}
 use Rattle.std.proofs.shelf.Tests.{cases-eq, cases-lt, lt-ltb, eq-eqb, eqb-false}
 use Rattle.bag.specs.Order.{Row}
-use Rattle.bag.specs.Bag.{is-zero, count, next, add-copies, lowest-row}
+use Rattle.bag.specs.Bag.{is-zero, count, next, lowest-row}
 use Rattle.bag.specs.Propagation.{one-if}
 use Rattle.bag.proofs.LineCounts.{length-add-copies}
-use Rattle.bag.specs.Refusal.{Refusal, left-by}
+use Rattle.bag.specs.Refusal.{left-by}
 use Rattle.bag.specs.Columns.{Is-row}
 use Rattle.stock.specs.Holding.{Holding, Lawful-holding, shelf-of, copies, lines-of, row-and-count, next-answer, with-copies, put-answer, after-put, take-answer, after-take}
 use Rattle.stock.specs.Laws.{Stock-laws}

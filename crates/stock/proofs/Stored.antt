@@ -4,18 +4,17 @@
 --     never-full           the table has room where the stock has
 use mathlib.Core.Path.{_≡_, refl, sym, ap, ap₂, _∙_, subst}
 use mathlib.Core.Bool.{Bool, true, false, cond}
-use mathlib.Core.Logic.{_⊎_, inl, inr, ⊎-elim}
-use mathlib.Core.List.{List, [], _∷_, _++_}
+use mathlib.Core.Logic.{inl, inr}
+use mathlib.Core.List.{List, []}
 use Prim.Native.Nat.{ℕ, suc, _<_, _≤_, min}
 use native.Mathlib.Omega.{arith}
 use lib.ListN.{length, getD, set}
-use lib.IntN.{ℤ, pos, _+ℤ_, +ℤ-idl}
-use Rattle.std.specs.declared.option.Option.{Option}
-use Rattle.std.specs.declared.option.Option.the-variants.{Some, None}
+use lib.IntN.{ℤ, pos, _+ℤ_}
+use Rattle.std.specs.declared.option.Option.the-variants.{Some}
 use Rattle.std.specs.Finite.{All}
 use Rattle.bag.specs.declared.lines.StockLine.{StockLine}
 use Rattle.bag.specs.Lines.{blank-stock-line}
-use Rattle.bag.specs.Order.{Row, row-order, stock-line-order}
+use Rattle.bag.specs.Order.{Row, stock-line-order}
 use Rattle.bag.specs.Bag.{Lines, count, add-copies}
 use Rattle.table.specs.declared.full.Full.{Full}
 use Rattle.table.specs.Order.{same-key}
@@ -26,12 +25,13 @@ use Rattle.table.proofs.Ascends.{all-with, all-without}
 use Rattle.table.proofs.Lookups.{entry-of-with, entry-of-with-other, entry-of-without, entry-of-without-other, length-with, length-without}
 use Rattle.table.proofs.Answered.{refused-since}
 use Rattle.stock.specs.declared.ordered.OrderedStock.{OrderedStock}
-use Rattle.stock.specs.Holding.{Holding, Lawful-holding, shelf-of, copies, lines-of, with-copies}
-use Rattle.stock.specs.Ordered.{on-shelf, shelves-of, held, Lawful-line, Sound-ordered}
+use Rattle.stock.specs.Holding.{copies, lines-of, with-copies}
+use Rattle.stock.specs.Holding.{Lawful-line}
+use Rattle.stock.specs.Ordered.{shelves-of, held, Sound-ordered}
 use Rattle.stock.proofs.Accepted.{Room-for}
 use Rattle.stock.proofs.OnShelf.{found-count}
 use Rattle.stock.proofs.Shelves.{shelf-at, one-key-changed, absent-count}
-use Rattle.stock.proofs.SoundOrdered.{stock-law, lines-held, count-held, copies-found, sound-from}
+use Rattle.stock.proofs.SoundOrdered.{stock-law, lines-held, copies-found, sound-from}
 
 pub record Changed (a b : OrderedStock) (s : ℕ) (r : Row) (z : ℤ) : Type 0 where
   pub sound : Sound-ordered b

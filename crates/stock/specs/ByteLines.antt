@@ -1,6 +1,5 @@
 -- Lines of a stock as bytes: a line is 35 bytes, its shelf, its eight columns and its count, numbers with the highest byte first
 -- (big-endian). Assumes nothing.
---     in-four z, in-two n         a signed number as four bytes; a number without sign as two
 --     four-at b p, two-at b p     the numbers that stand in four and in two bytes from place p on
 --     line-bytes l                a line as bytes
 --     layout ls                   lines as bytes, one behind the other
@@ -17,15 +16,9 @@ use mir.Val.{toZ, ofZ}
 use mir.Syntax.{w32}
 use Rattle.std.specs.shelf.Lists.{joined}
 use Rattle.std.specs.Iters.{counting}
+use Rattle.bag.specs.Bytes.{in-four, in-two}
 use Rattle.bag.specs.Order.{Row}
 use Rattle.bag.specs.declared.lines.StockLine.{StockLine}
-
-abbrev pub in-four : ℤ → List ℕ
-in-four z =
-    (ofZ w32 z / 16777216 % 256) ∷ (ofZ w32 z / 65536 % 256) ∷ (ofZ w32 z / 256 % 256) ∷ (ofZ w32 z % 256) ∷ []
-
-abbrev pub in-two : ℕ → List ℕ
-in-two n = (n / 256 % 256) ∷ (n % 256) ∷ []
 
 abbrev pub four-at : List ℕ → ℕ → ℤ
 four-at b p = toZ w32 (getD b p 0 * 16777216 + getD b (p + 1) 0 * 65536 + getD b (p + 2) 0 * 256 + getD b (p + 3) 0)

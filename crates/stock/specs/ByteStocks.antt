@@ -21,7 +21,8 @@ use Rattle.stock.specs.declared.bytes.ByteStock.{ByteStock}
 use Rattle.stock.specs.Refusal.{told}
 use Rattle.stock.specs.Holding.{Holding, Lawful-holding, put-answer, after-put, take-answer, after-take}
 use Rattle.stock.specs.ByteLines.{stored-in, padded}
-use Rattle.stock.specs.ByteStored.{Stored, Lawful-line, Apart, holding-of, lines-after-put, lines-after-take}
+use Rattle.stock.specs.Holding.{Lawful-line}
+use Rattle.stock.specs.ByteStored.{Stored, Apart, holding-of, lines-after-put, lines-after-take}
 
 abbrev pub capacity-in : ℕ → ℕ
 capacity-in n = min (n / 35) 4096

@@ -1,6 +1,5 @@
 -- The lines that a stock keeps in bytes, in the order in which they stand there, and what its calls make of them. Assumes nothing.
 --     Stored                         lines in the order in which they stand
---     Lawful-line l                  a line on one of sixteen shelves, of a row, with a count from 1 to 65,535
 --     Apart ls                       no two lines are of the same shelf and row
 --     bag-on s ls, shelves-of ls     the bag that the lines of shelf s make; those of the sixteen shelves
 --     holding-of c ls                what the lines mean
@@ -31,16 +30,10 @@ use Rattle.bag.specs.Lines.{blank-stock-line}
 use Rattle.bag.specs.declared.lines.StockLine.{StockLine}
 use Rattle.bag.specs.Refusal.{left-by}
 use Rattle.bag.specs.Columns.{Is-row}
-use Rattle.stock.specs.Holding.{Holding, put-answer, take-answer}
+use Rattle.stock.specs.Holding.{Holding, put-answer, take-answer, Lawful-line}
 
 abbrev pub Stored : Type 0
 Stored = List StockLine
-
-pub record Lawful-line (l : StockLine) : Type 0 where
-  pub shelf : l .shelf ≤ 15
-  pub row : Is-row (l .row)
-  pub some : 1 ≤ l .count
-  pub most : l .count ≤ 65535
 
 abbrev pub line-of : Stored → ℕ → StockLine
 line-of ls i = getD ls i blank-stock-line

@@ -8,6 +8,7 @@
 --     put-answer, after-put          what putting n copies of r on shelf s is answered, and what it leaves
 --     take-answer, after-take        the same of taking
 --     empty-holding c                sixteen empty shelves
+--     Lawful-line l                  a line on one of sixteen shelves, of a row, with a count from 1 to 65,535
 --     Lawful-holding h               sixteen bags of such rows, counts up to 65,535, no more lines than the capacity, and that at most 4,096
 use mathlib.Core.Path.{_≡_}
 use mathlib.Core.Bool.{Bool, cond, _&&_}
@@ -23,6 +24,7 @@ use Rattle.std.specs.declared.result.Result.{Result}
 use Rattle.std.specs.declared.result.Result.the-variants.{Ok, Err}
 use Rattle.std.specs.Options.{mapped}
 use Rattle.std.specs.shelf.Lists.{All}
+use Rattle.bag.specs.declared.lines.StockLine.{StockLine}
 use Rattle.bag.specs.Order.{Row}
 use Rattle.bag.specs.Columns.{Is-row}
 use Rattle.bag.specs.Bag.{Line, Lines, count, add-copies, next, Is-bag, Each-row}
@@ -88,3 +90,9 @@ pub record Lawful-holding (h : Holding) : Type 0 where
   pub counts : (s : ℕ) (r : Row) → copies h s r ≤ 65535
   pub room : lines-of h ≤ h .capacity
   pub small : h .capacity ≤ 4096
+
+pub record Lawful-line (l : StockLine) : Type 0 where
+  pub shelf : l .shelf ≤ 15
+  pub row : Is-row (l .row)
+  pub some : 1 ≤ l .count
+  pub most : l .count ≤ 65535

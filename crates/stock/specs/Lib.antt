@@ -7,3 +7,7 @@ pub mod ByteLines
 pub mod ByteStored
 pub mod ByteStocks
 pub mod ByteSearch
+pub mod PendingLines
+pub mod PendingBook
+pub mod Settling
+pub mod PendingNext

@@ -5,7 +5,6 @@
 --     lines-of-bag s bag        a bag as lines on shelf s, in order
 --     laid-out s bags           the bags of the shelves from s on as lines, one shelf behind the other
 --     held stock                what the stock means; its capacity is the run's length, at most 4,096
---     Lawful-line l             a line on one of sixteen shelves, of a row, with a count from 1 to 65,535
 --     Sound-ordered stock       what calls keep: the table is sound, its lines are lawful, there are no more than the capacity,
 --                               and the whole run is the sixteen bags laid out in order with blanks behind
 use mathlib.Core.Path.{_≡_}
@@ -14,7 +13,7 @@ use mathlib.Core.List.{List, [], _∷_, _++_}
 use Prim.Native.Nat.{ℕ, zero, suc, _-_, _≤_, min}
 use lib.Dec.{eqb}
 use lib.IntN.{pos, natAbs}
-use lib.ListN.{length, replicate}
+use lib.ListN.{replicate}
 use denote.Ref.{now, name}
 use Rattle.std.specs.Finite.{All}
 use Rattle.bag.specs.declared.lines.StockLine.{StockLine}
@@ -23,7 +22,7 @@ use Rattle.bag.specs.Order.{stock-line-order}
 use Rattle.bag.specs.Bag.{Line, Lines}
 use Rattle.table.specs.Tables.{items, capacity, Sound}
 use Rattle.bag.specs.Columns.{Is-row}
-use Rattle.stock.specs.Holding.{Holding, Lawful-holding, lines-of}
+use Rattle.stock.specs.Holding.{Holding, Lawful-holding, lines-of, Lawful-line}
 use Rattle.stock.specs.declared.ordered.OrderedStock.{OrderedStock}
 
 abbrev pub as-line : StockLine → Line
@@ -50,12 +49,6 @@ laid-out s (bag ∷ bags) = lines-of-bag s bag ++ laid-out (suc s) bags
 
 abbrev pub held : OrderedStock → Holding
 held stock = record { capacity = min (capacity (stock .table)) 4096; shelves = shelves-of (items (stock .table)) }
-
-pub record Lawful-line (l : StockLine) : Type 0 where
-  pub shelf : l .shelf ≤ 15
-  pub row : Is-row (l .row)
-  pub some : 1 ≤ l .count
-  pub most : l .count ≤ 65535
 
 -- what stands in the lent run, told by the meaning alone
 abbrev pub run-of : ℕ → Holding → List StockLine

@@ -2,7 +2,8 @@ ghost use mathlib.Core.Path.{_≡_};
 ghost use Prim.Native.Nat.{_+_, _*_, _≤_};
 ghost use lib.ListN.{length, replicate};
 ghost use Rattle.std.specs.shelf.Lists.{joined};
-ghost use Rattle.stock.specs.ByteLines.{four-at, two-at, row-at, in-four, in-two, line-at, line-bytes, laid};
+ghost use Rattle.bag.specs.Bytes.{in-four, in-two};
+ghost use Rattle.stock.specs.ByteLines.{four-at, two-at, row-at, line-at, line-bytes, laid};
 use bag::lines::StockLine;
 use bag::row::Row;
 

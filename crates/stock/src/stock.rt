@@ -1,5 +1,5 @@
 ghost use mathlib.Core.Path.{_≡_};
-ghost use Prim.Native.Nat.{ℕ, _≤_};
+ghost use Prim.Native.Nat.{ℕ};
 ghost use denote.Ref.{now};
 ghost use Rattle.stock.specs.Refusal.{told};
 ghost use Rattle.stock.specs.Holding.{Holding, Lawful-holding, copies, lines-of, next-answer, put-answer, after-put, take-answer, after-take};

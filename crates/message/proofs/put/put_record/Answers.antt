@@ -6,7 +6,7 @@ use lib.ListN.{length, length-append}
 use Rattle.std.specs.shelf.Lists.{joined}
 use Rattle.std.proofs.shelf.Lists.{append-assoc}
 use Rattle.message.specs.Buffer.{laid}
-use Rattle.message.specs.Bytes.{in-two}
+use Rattle.bag.specs.Bytes.{in-two}
 use Rattle.message.specs.Encode.{map-of, column-bytes, count-bytes, node-bytes, encode}
 use Rattle.message.proofs.Laid.{laid-then}
 use Rattle.message.proofs.Encoded.{length-encode}

@@ -5,7 +5,7 @@ use Prim.Native.Nat.{ℕ}
 use Rattle.std.specs.declared.result.Result.{Result}
 use Rattle.std.proofs.shelf.Elements.{all-from-getD}
 use Rattle.std.proofs.shelf.Results.{err-from-errBy}
-use Rattle.message.specs.Bytes.{Bytes}
+use Rattle.bag.specs.Bytes.{Bytes}
 use Rattle.message.specs.Listed.{items}
 use Rattle.message.specs.Refusal.{Told}
 use Rattle.message.specs.Writing.{Written, filled, written}

@@ -10,7 +10,8 @@ use mir.Syntax.{w32}
 use Rattle.std.specs.shelf.Lists.{joined}
 use Rattle.std.proofs.shelf.Lists.{take-all, take-append-drop}
 use Rattle.std.proofs.shelf.Signed.{toZ-ofZ}
-use Rattle.stock.specs.ByteLines.{in-four, laid}
+use Rattle.bag.specs.Bytes.{in-four}
+use Rattle.stock.specs.ByteLines.{laid}
 use Rattle.stock.proofs.ByteLaid.{laid-more, laid-nothing}
 use Rattle.stock.proofs.ByteJoins.{columns-step, length-first-columns}
 use Rattle.stock.proofs.byte_line.put_columns.Needs as need

@@ -2,7 +2,8 @@ use mathlib.Core.Path.{_≡_}
 use Prim.Native.Nat.{_+_}
 use lib.ListN.{length, take}
 use Rattle.std.specs.shelf.Lists.{joined}
-use Rattle.stock.specs.ByteLines.{in-four, laid}
+use Rattle.bag.specs.Bytes.{in-four}
+use Rattle.stock.specs.ByteLines.{laid}
 use Rattle.stock.proofs.byte_line.put_columns.Given as given
 
 abbrev pub Inv-loop-k : given.InvT-loop-k

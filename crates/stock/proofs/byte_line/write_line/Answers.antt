@@ -5,7 +5,8 @@ use native.Mathlib.Omega.{arith}
 use lib.ListN.{length, length-append}
 use Rattle.std.specs.shelf.Lists.{joined}
 use Rattle.std.proofs.shelf.Lists.{append-assoc}
-use Rattle.stock.specs.ByteLines.{laid, in-four, in-two, line-bytes}
+use Rattle.bag.specs.Bytes.{in-four, in-two}
+use Rattle.stock.specs.ByteLines.{laid, line-bytes}
 use Rattle.stock.proofs.ByteLaid.{laid-then}
 use Rattle.stock.proofs.ByteJoins.{length-columns}
 use Rattle.stock.proofs.byte_line.write_line.Needs as need

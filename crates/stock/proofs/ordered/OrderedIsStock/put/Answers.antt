@@ -1,7 +1,6 @@
-use mathlib.Core.Path.{_≡_, refl}
+use mathlib.Core.Path.{refl}
 use native.Mathlib.Omega.{arith}
-use Prim.Native.Nat.{_+_, _≤_}
-use Rattle.stock.specs.Holding.{copies}
+use Prim.Native.Nat.{_+_}
 use Rattle.stock.specs.Ordered.{Sound-ordered, held}
 use Rattle.stock.proofs.Accepted.{room-from}
 use Rattle.stock.proofs.Stored.{never-full}

@@ -1,9 +1,8 @@
-use mathlib.Core.Path.{_≡_, refl}
+use mathlib.Core.Path.{refl}
 use mathlib.Core.Logic.{inl}
 use native.Mathlib.Omega.{arith}
-use Prim.Native.Nat.{_-_, _≤_}
-use Rattle.stock.specs.Holding.{copies}
-use Rattle.stock.specs.Ordered.{Sound-ordered, held}
+use Prim.Native.Nat.{_-_}
+use Rattle.stock.specs.Ordered.{Sound-ordered}
 use Rattle.stock.proofs.Stored.{never-full}
 use Rattle.stock.proofs.Moved.{line, nothing-taken, take-done, take-freed}
 use Rattle.stock.proofs.ordered.OrderedIsStock.take.Needs as need

@@ -6,7 +6,8 @@ use lib.ListN.{length, replicate}
 use Rattle.std.specs.Finite.{All}
 use Rattle.bag.specs.Lines.{blank-stock-line}
 use Rattle.bag.specs.Bag.{Lines}
-use Rattle.stock.specs.Ordered.{Sound-ordered, Lawful-line, shelves-of}
+use Rattle.stock.specs.Holding.{Lawful-line}
+use Rattle.stock.specs.Ordered.{shelves-of}
 use Rattle.stock.proofs.SoundOrdered.{sound-from}
 use Rattle.stock.proofs.Shelves.{no-lines}
 use Rattle.stock.proofs.ordered.OrderedStock.new.Needs as need
