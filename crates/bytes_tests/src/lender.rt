@@ -9,13 +9,13 @@ use stock::bytes::ByteStock;
 use stock::fault::StockFault;
 
 // Once the stock is gone its lender finds the memory as the last call left it, whatever it held before.
-pub fn leave_nothing(bytes: &mut [u8])
+pub(crate) fn leave_nothing(bytes: &mut [u8])
     ensures { λ _. ⌜ now (bytes .exit) ≡ replicate (length (now (bytes .entry))) 0 ⌝ }
 {
     let _stock = ByteStock::new(bytes);
 }
 
-pub fn leave_one(bytes: &mut [u8], shelf: u8, row: &Row, n: u16) -> Result<(), StockFault>
+pub(crate) fn leave_one(bytes: &mut [u8], shelf: u8, row: &Row, n: u16) -> Result<(), StockFault>
     ensures { λ _. ⌜ now (bytes .exit) ≡ padded (length (now (bytes .entry))) (lines-after-put (capacity-in (length (now (bytes .entry)))) shelf (now (row .entry)) n []) ⌝ }
 {
     let mut stock = ByteStock::new(bytes);
