@@ -2,7 +2,6 @@ use bag::row::Row;
 use std::test::*;
 use stock::bytes::ByteIsStock;
 use stock::bytes::ByteStock;
-use stock::calls::put_one;
 use stock::fault::StockFault;
 use stock::stock::Stock;
 
@@ -78,7 +77,7 @@ fn a_count_ends_at_65535() -> Result<(), Fail> {
     let mut bytes = [7; 35];
     let mut stock = ByteStock::new(&mut bytes);
     check_eq(refusal(stock.put(4, &[1; 8], 65535)), (0, 0))?;
-    check_eq(refusal(put_one(&mut stock, 4, &[1; 8])), (6, 4))?;
+    check_eq(refusal(stock.put(4, &[1; 8], 1)), (6, 4))?;
     check_eq(refusal(stock.take(4, &[1; 8], 65534)), (0, 0))?;
     check_eq(refusal(stock.take(4, &[1; 8], 2)), (5, 4))?;
     check_eq(stock.count(4, &[1; 8]), 1)
