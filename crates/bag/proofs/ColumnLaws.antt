@@ -4,7 +4,7 @@
 --     columns_are_as_said   the law
 use Rattle.std.proofs.Common.{◌≡◌, ℕ, zero, suc, ◌-◌, ◌<◌, ◌≤◌, List, [], ◌∷◌, ◌++◌, length, get_or, take, replicate, ℤ, pos, Decides, sym, refl, ◌∙◌, ⊎_elim, arith}
 use Rattle.std.specs.List.{AllByRecursion as All}
-use Rattle.std.proofs.lemmas.List.{get_or_append_left, get_or_append_right, get_or-take, get_or_past, length-take}
+use Rattle.std.proofs.lemmas.List.{get_or_append_left, get_or-append_right, get_or-take, get_or_past, length-take}
 use Rattle.std.proofs.lemmas.Bool.{cases_lt}
 use Rattle.std.proofs.lemmas.Bool.Decides.{Decides-and}
 use Rattle.bag.specs.Order.{Row}
@@ -22,7 +22,7 @@ behind_zeros : (zs : List ℤ) (n i : ℕ) → column_of (zs ++ replicate n (pos
 behind_zeros zs n i =
     ⊎_elim
     (λ h. get_or_append_left zs (replicate n (pos 0)) (pos 0) i h)
-    (λ h. get_or_append_right zs (replicate n (pos 0)) (length zs) i (pos 0) refl h ∙ (zeros n (i - length zs) ∙ sym (get_or_past zs i (pos 0) h)))
+    (λ h. get_or-append_right zs (replicate n (pos 0)) (length zs) i (pos 0) refl h ∙ (zeros n (i - length zs) ∙ sym (get_or_past zs i (pos 0) h)))
     (cases_lt i (length zs))
 
 pub column_of_padded : (zs : List ℤ) (i : ℕ) → i < 8 → column_of (padded zs) i ≡ column_of zs i
@@ -46,7 +46,7 @@ column_followed_front w a b i e h l =
 
 pub column_followed_behind : (w : ℕ) (a b : Row) (i : ℕ) → length a ≡ 8 → i < 8 → w ≤ i → column_of (followed w a b) i ≡ column_of b (i - w)
 column_followed_behind w a b i e h l =
-    column_of_padded (take w a ++ b) i h ∙ get_or_append_right (take w a) b w i (pos 0) (omega (arith, length-take w a)) l
+    column_of_padded (take w a ++ b) i h ∙ get_or-append_right (take w a) b w i (pos 0) (omega (arith, length-take w a)) l
 
 pub columns_are_as_said : ColumnsAreAsSaid
 columns_are_as_said = record {

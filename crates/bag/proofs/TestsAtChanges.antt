@@ -125,7 +125,7 @@ module _ {V : Type 0} {ok : V → Type 0} (M : Measure V) (L : MeasureLaws ok M)
 
       from : (k : Row) → every_line (fits_if_any new) t ≡ true → is_zero (copies new k) ≡ false → (b : Bool) → is_zero (count t k) ≡ b → M.fits (val new k) ≡ true
       from k h z true e =
-          let c : copies new k ≡ copies old k = group_copies_moves M.group L.group_laws (listed is) (column_worth M j) worths old d new m k ∙ ap (λ x. copies old k +ℤ x) (T.no_Copies k e) ∙ +ℤ_idr _ in
+          let c : copies new k ≡ copies old k = group_copies_moves M.group L.group_laws (listed is) (column_worth M j) worths old d new m k ∙ ap (λ x. copies old k +ℤ x) (T.no_copies k e) ∙ +ℤ_idr _ in
           let v : val new k ≡ val old k =
           group_value_moves M.group L.group_laws (listed is) (column_worth M j) worths old d new m k
           ∙ ap (M.group.plus (val old k)) (T.no_value k e)

@@ -6,8 +6,8 @@ use Rattle.std.specs.Prelude.{◌≡◌, ℕ, [], ◌∷◌, ℤ, ◌<ℤ◌, re
 use Rattle.std.specs.declared.cmp.Ordering.TheVariants.{Less, Equal, Greater}
 use Rattle.std.specs.declared.cmp.Ordering.{Ordering}
 use Rattle.std.proofs.Common.{sym, ap, ap₂, ◌∙◌, subst, arith}
-use Rattle.std.specs.Cmp.{int_cmp_total, int_ranks}
-use Rattle.std.specs.Cmp.Lexicographic.{lexical}
+use Rattle.std.specs.Cmp.{int_cmp_total, int_ranks, int_cmp_is}
+use Rattle.std.specs.Cmp.Lexicographic.{lists_total}
 use Rattle.std.specs.Ordering.{MatchOrdering, ordering_then, ordering_reverse, int_cmp}
 use Rattle.bag.specs.Order.{Row, row_order, RowsAreTotallyOrdered}
 
@@ -15,13 +15,13 @@ pub column_equal : (a b : ℤ) → int_cmp a b ≡ Equal → a ≡ b
 column_equal a b e = subst (λ (o : Ordering). MatchOrdering o (a <ℤ b) (a ≡ b) (b <ℤ a)) e (int_ranks a b)
 
 pub column_less : (a b : ℤ) → a <ℤ b → int_cmp a b ≡ Less
-column_less a b h = sym (int_cmp_total.says a b Less h)
+column_less a b h = sym (int_cmp_is a b Less h)
 
 pub column_greater : (a b : ℤ) → b <ℤ a → int_cmp a b ≡ Greater
-column_greater a b h = sym (int_cmp_total.says a b Greater h)
+column_greater a b h = sym (int_cmp_is a b Greater h)
 
 pub column_itself : (a : ℤ) → int_cmp a a ≡ Equal
-column_itself a = sym (int_cmp_total.says a a Equal refl)
+column_itself a = sym (int_cmp_is a a Equal refl)
 
 pub order_itself : (r : Row) → row_order r r ≡ Equal
 unfolding row_order
@@ -42,11 +42,11 @@ order_equal (a ∷ s) (b ∷ t) e = by (int_cmp a b) refl e (order_equal s t)
 
 pub order_turned : (r q : Row) → row_order r q ≡ ordering_reverse (row_order q r)
 unfolding row_order
-order_turned r q = (lexical int_cmp_total).flip r q
+order_turned r q = (lists_total int_cmp_total).antisymm r q
 
 pub order_transitive : (x y z : Row) → row_order x y ≡ Less → row_order y z ≡ Less → row_order x z ≡ Less
 unfolding row_order
-order_transitive x y z p q = (lexical int_cmp_total).trans x y z p q
+order_transitive x y z p q = (lists_total int_cmp_total).trans x y z p q
 
 pub greater_less : (a b : Row) → row_order a b ≡ Greater → row_order b a ≡ Less
 greater_less a b p = order_turned b a ∙ ap ordering_reverse p

@@ -8,7 +8,7 @@ use Rattle.std.specs.List.{AllByRecursion as All}
 use Rattle.std.specs.Option.{option_map}
 use Rattle.std.proofs.lemmas.Int.{ints}
 use Rattle.std.proofs.lemmas.Bool.{cases_eq, cond-true, cond-false, lt-ltb, le-ltb, eq-eqb, ne_eqb, and_from, and_left, and_right}
-use Rattle.std.proofs.lemmas.List.{get_or-set_same, get_or_set_other, length-set, length_push, get_or_push, get_or_append_left, get_or-take, length-take-le, take_more, take_all}
+use Rattle.std.proofs.lemmas.List.{get_or-set_same, get_or-set_other, length-set, length_push, get_or_push, get_or_append_left, get_or-take, length-take-le, take_more, take_all}
 use Rattle.std.proofs.ByRecursion.{All-get_or, All-set, All-push, All-take}
 use Rattle.bag.specs.Order.{Row, row_order}
 use Rattle.bag.specs.Bag.{if_equal, count, add_copies}
@@ -79,11 +79,11 @@ kept_set c ls i l h k g e f =
   where
     shelf : (j : ℕ) → (j ≡ i) ⊎ (j ≡ i → ⊥) → (line_of (set ls i l) j).shelf ≡ (line_of ls j).shelf
     shelf j (inl x) = ap (λ m. (line_of (set ls i l) m).shelf) x ∙ ap (λ (y : StockLine). y.shelf) (get_or-set_same ls i l blank_stock_line k) ∙ sym e ∙ ap (λ m. (line_of ls m).shelf) (sym x)
-    shelf j (inr x) = ap (λ (y : StockLine). y.shelf) (get_or_set_other ls i j l blank_stock_line x)
+    shelf j (inr x) = ap (λ (y : StockLine). y.shelf) (get_or-set_other ls i j l blank_stock_line x)
 
     row : (j : ℕ) → (j ≡ i) ⊎ (j ≡ i → ⊥) → (line_of (set ls i l) j).row ≡ (line_of ls j).row
     row j (inl x) = ap (λ m. (line_of (set ls i l) m).row) x ∙ ap (λ (y : StockLine). y.row) (get_or-set_same ls i l blank_stock_line k) ∙ sym f ∙ ap (λ m. (line_of ls m).row) (sym x)
-    row j (inr x) = ap (λ (y : StockLine). y.row) (get_or_set_other ls i j l blank_stock_line x)
+    row j (inr x) = ap (λ (y : StockLine). y.row) (get_or-set_other ls i j l blank_stock_line x)
 
 pub kept_push : (c : ℕ) (ls : Stored) (l : StockLine) → Kept c ls → length ls < c → LawfulLine l → Absent l.shelf l.row ls → Kept c (ls ++ l ∷ [])
 kept_push c ls l h k g none =
@@ -122,7 +122,7 @@ moved_here ls i j h k e =
 stays : (ls : Stored) (i j : ℕ) → j < length ls - 1 → (j ≡ i → ⊥) → line_of (freed i ls) j ≡ line_of ls j
 stays ls i j h e =
     let l = line_of ls (length ls - 1) in
-    get_or-take (length ls - 1) (set ls i l) j blank_stock_line h ∙ get_or_set_other ls i j l blank_stock_line e
+    get_or-take (length ls - 1) (set ls i l) j blank_stock_line h ∙ get_or-set_other ls i j l blank_stock_line e
 
 pub kept_freed : (c : ℕ) (ls : Stored) (i : ℕ) → Kept c ls → i < length ls → Kept c (freed i ls)
 kept_freed c ls i h k =
@@ -167,7 +167,7 @@ tally_freed t q ls i h =
   where
     by : (length ls - 1 ≡ i) ⊎ (length ls - 1 ≡ i → ⊥) → line_of (set ls i (line_of ls (length ls - 1))) (length ls - 1) ≡ line_of ls (length ls - 1)
     by (inl e) = ap (λ m. line_of (set ls i (line_of ls (length ls - 1))) m) e ∙ get_or-set_same ls i (line_of ls (length ls - 1)) blank_stock_line h
-    by (inr e) = get_or_set_other ls i (length ls - 1) (line_of ls (length ls - 1)) blank_stock_line e
+    by (inr e) = get_or-set_other ls i (length ls - 1) (line_of ls (length ls - 1)) blank_stock_line e
 
 worth_none : (t : ℕ) (q : Row) (s : ℕ) (r : Row) → worth t q s r (pos 0) ≡ pos 0
 unfolding count

@@ -9,7 +9,7 @@ use lib.IntN.{+ℤ_idl, +ℤ_idr}
 use Rattle.std.specs.List.{flat_map, AllByRecursion as All, range_with_len}
 use Rattle.std.proofs.lemmas.Int.{ints}
 use Rattle.std.proofs.lemmas.Bool.{cases_eq, cases_lt, eq-eqb, ne_eqb}
-use Rattle.std.proofs.lemmas.List.{ext_get_or, get_or_past, get_or-set_same, get_or_set_other, length-set}
+use Rattle.std.proofs.lemmas.List.{ext_get_or, get_or_past, get_or-set_same, get_or-set_other, length-set}
 use Rattle.std.proofs.ByRecursion.{All-get_or}
 use Rattle.std.proofs.lemmas.List.FromFn.{length-map-range_with_len, get_or-map-range_with_len}
 use Rattle.bag.specs.Order.{Row, row_order}
@@ -202,7 +202,7 @@ shelves_moved ls ks s r z small m =
     by t h (inr e) =
         shelf_within ks t h
         ∙ equal_counts (bag_on t ks) (bag_on t ls) (canonical_bag ks t) (canonical_bag ls t) (λ q. count_bag ks t q ∙ m t q ∙ ap (λ y. tally t q ls +ℤ y) (worth_off t q s r z (λ x. e (sym x))) ∙ +ℤ_idr (tally t q ls) ∙ sym (count_bag ls t q))
-        ∙ sym (get_or_set_other (shelves_of ls) s t (add_copies r z (get_or (shelves_of ls) s [])) [] e ∙ shelf_within ls t h)
+        ∙ sym (get_or-set_other (shelves_of ls) s t (add_copies r z (get_or (shelves_of ls) s [])) [] e ∙ shelf_within ls t h)
 
 lines_on_set : (bags : List Lines) (s : ℕ) (bag : Lines) → s < length bags → lines_on (set bags s bag) + length (get_or bags s []) ≡ lines_on bags + length bag
 unfolding lines_on

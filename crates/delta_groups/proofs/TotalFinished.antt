@@ -78,9 +78,9 @@ unfolding every_line map_groups
 one_each row-for [] = refl
 one_each row-for (e ∷ gs) = one_each row-for gs
 
-not_true : (a : Bool) → not a ≡ true → a ≡ false
-not_true true h = let z : ◌≡◌ {A = ℕ} 0 1 = cc in absurd (let w : ⊥ = omega arith in w)
-not_true false h = refl
+not-true : (a : Bool) → not a ≡ true → a ≡ false
+not-true true h = let z : ◌≡◌ {A = ℕ} 0 1 = cc in absurd (let w : ⊥ = omega arith in w)
+not-true false h = refl
 
 not_false : (a : Bool) → false ≡ not a → a ≡ true
 not_false true h = refl
@@ -120,7 +120,7 @@ module _ {V : Type 0} {ok : V → Type 0} (M : Measure V) (L : MeasureLaws ok M)
 
   -- a total's counts are 1
   never_over : over_at (shelf_of h k) out ≡ false
-  never_over = not_true (over_at (shelf_of h k) out)
+  never_over = not-true (over_at (shelf_of h k) out)
       (sym (counts_told h law k (total M j is after) out bag (out_is ∙ ap (λ (b : Lines). difference b (total M j is after)) (sym at.own)))
       ∙ ap counts_fit (total_is_rows M j is after (omega arith)) ∙ one_each _ (pick is after))
 
@@ -135,7 +135,7 @@ module _ {V : Type 0} {ok : V → Type 0} (M : Measure V) (L : MeasureLaws ok M)
 
       answer : (b : Bool) → wide ≡ b → r ≡ cond (over_at (shelf_of h k) out) (Err Over) (cond (all_groups_fit M j is after) (Ok used) (Err Wide))
       answer true e =
-          let f : all_groups_fit M j is after ≡ false = not_true (all_groups_fit M j is after) (sym told ∙ e) in
+          let f : all_groups_fit M j is after ≡ false = not-true (all_groups_fit M j is after) (sym told ∙ e) in
           wide_is e ∙ sym (ap₂ (λ a b. cond a (Err Over) (cond b (Ok used) (Err Wide))) never_over f)
       answer false e =
           let f : all_groups_fit M j is after ≡ true = not_false (all_groups_fit M j is after) (sym e ∙ told) in

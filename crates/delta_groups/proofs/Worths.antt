@@ -5,7 +5,7 @@
 --     values_none        the values over no line
 --     value_more, values_more        the values over one line more
 --     deltas_are         copies and values as the walk over the groups takes them
-use Rattle.std.proofs.Common.{◌≡◌, ℕ, ◌+◌, ◌<◌, ◌≤◌, ◌≢◌, ◌⊎◌, List, [], ◌∷◌, ◌++◌, length, get_or, take, drop, set, ℤ, pos, Some, None, Ordering, Less, Equal, Greater, sym, refl, ap, ◌∙◌, subst, ap₂, inl, inr, arith, get_or_set_other, get_or-set_same}
+use Rattle.std.proofs.Common.{◌≡◌, ℕ, ◌+◌, ◌<◌, ◌≤◌, ◌≢◌, ◌⊎◌, List, [], ◌∷◌, ◌++◌, length, get_or, take, drop, set, ℤ, pos, Some, None, Ordering, Less, Equal, Greater, sym, refl, ap, ◌∙◌, subst, ap₂, inl, inr, arith, get_or-set_other, get_or-set_same}
 use lib.IntN.{+ℤ_idl}
 use Rattle.std.proofs.lemmas.List.{take_more, get_or-map, length-map, get_or_default, get_or_append_left, length-append, length-take, length-drop}
 use Rattle.std.proofs.lemmas.Bool.{cases_lt}
@@ -63,10 +63,10 @@ module _ (t : Table ChangeLine) (xs : Lines) (n : Nets t xs) (r : Row) where
 
         by : (i < p) ⊎ (p ≤ i) → (p < i) ⊎ (i ≤ p) → get_or (set vs p b) i z ≡ plus_if_equal G (row_order r (get_or xs i e).0) (get_or vs i z) w
         by (inl l) q =
-            get_or_set_other vs p i b z (let ne : i ≢ p = omega arith in ne)
+            get_or-set_other vs p i b z (let ne : i ≢ p = omega arith in ne)
             ∙ apart (row_order r (get_or xs i e).0) (get_or vs i z) w (inr (sym (order_at i e h) ∙ there.before i l))
         by (inr m) (inl l) =
-            get_or_set_other vs p i b z (let ne : i ≢ p = omega arith in ne)
+            get_or-set_other vs p i b z (let ne : i ≢ p = omega arith in ne)
             ∙ apart (row_order r (get_or xs i e).0) (get_or vs i z) w (inl (sym (order_at i e h) ∙ there.behind i l (let s = long in omega arith)))
         by (inr m) (inr l) =
             let q : i ≡ p = omega arith in
@@ -96,7 +96,7 @@ pub cleared : {V : Type 0} (vs : List V) (i : ℕ) (a b : V) → i < length vs �
 cleared {V = V} vs i a b h e below k z l = by (cases_lt k i)
   where
     by : (k < i) ⊎ (i ≤ k) → get_or (set vs i a) k z ≡ b
-    by (inl m) = get_or_set_other vs i k a z (let ne : k ≢ i = omega arith in ne) ∙ below k z m
+    by (inl m) = get_or-set_other vs i k a z (let ne : k ≢ i = omega arith in ne) ∙ below k z m
     by (inr m) = let q : k ≡ i = omega arith in ap (λ j. get_or (set vs i a) j z) q ∙ get_or-set_same vs i a z h ∙ e
 
 -- the front of the values is set, and the rest is left

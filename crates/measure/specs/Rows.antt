@@ -6,7 +6,7 @@
 --     exactly_within, exactly_self, exactly_take, length_exactly      as many columns as asked for
 use Rattle.std.specs.Prelude.{◌≡◌, ℕ, zero, suc, ◌+◌, ◌-◌, ◌<◌, ◌≤◌, min, ◌⊎◌, List, [], ◌∷◌, ◌++◌, length, take, drop, replicate, ℤ, pos, FitsSigned, ◌≢◌, slice_set, refl}
 use Rattle.std.proofs.Common.{sym, ap, ◌∙◌, inl, inr, arith, to_z, of_z}
-use Rattle.std.proofs.lemmas.List.{ext_get_or, get_or-take, get_or-drop, get_or-set_same, get_or_set_other, get_or_past, length-take, length-set, take-take, take_all, take-append-le}
+use Rattle.std.proofs.lemmas.List.{ext_get_or, get_or-take, get_or-drop, get_or-set_same, get_or-set_other, get_or_past, length-take, length-set, take-take, take_all, take-append-le}
 use Rattle.std.specs.Int.{w32}
 use Rattle.std.proofs.lemmas.Int.{to_z-of_z}
 use Rattle.std.proofs.lemmas.Bool.{cases_eq, cases_lt}
@@ -46,7 +46,7 @@ filled_more target row i x h f e = (length-set row i x ∙ f.0, λ k l. by k (ca
 
     by : (k : ℕ) → (k ≡ i) ⊎ (k ≢ i) → k < i + 1 → column_of (slice_set row i x) k ≡ column_of target k
     by k (inl p) l = let q = f.0 in rw p (get_or-set_same row i x (pos 0) (omega arith) ∙ e)
-    by k (inr p) l = get_or_set_other row i k x (pos 0) p ∙ f.1 k (below (cases_lt k i) p l)
+    by k (inr p) l = get_or-set_other row i k x (pos 0) p ∙ f.1 k (below (cases_lt k i) p l)
 
 -- the same, as a column shows that was passed as 32 bits
 pub filled_step : (target row : List ℤ) (i : ℕ) (x : ℤ) → FitsSigned w32 x → i < 8 → Filled target i row → x ≡ column_of target i → Filled target (i + 1) (slice_set row i (to_z w32 (of_z w32 x)))

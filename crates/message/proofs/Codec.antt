@@ -2,7 +2,7 @@
 use Rattle.std.proofs.Common.{◌≡◌, ℕ, zero, suc, ◌+◌, ◌-◌, ◌^◌, ◌<◌, ◌≤◌, Bool, true, false, not, ◌&&◌, ◌||◌, eqb, leb, List, [], ◌∷◌, ◌++◌, map, length, get_or, take, ℤ, pos, Some, Ok, refl, ap, ◌∙◌, subst, append_assoc, add-one, arith, w32, SFits}
 use Rattle.std.specs.List.{flat_map}
 use Rattle.std.proofs.ByRecursion.{All-get_or}
-use Rattle.std.proofs.lemmas.List.{take_more, take_all, length-append, get_or_append_left, get_or_append_right, get_or-map}
+use Rattle.std.proofs.lemmas.List.{take_more, take_all, length-append, get_or_append_left, get_or-append_right, get_or-map}
 use Rattle.std.proofs.lemmas.Bool.{lt-ltb, le-leb, eqb-true, eqb-false, leb-true, and_parts, and_from}
 use Rattle.message.specs.declared.record.Record.{Record}
 use Rattle.bag.specs.Bytes.{first_two, in_two}
@@ -45,7 +45,7 @@ module _ (r : Record) (eight : length r.row ≡ 8) where
   high_bit : (i : ℕ) → bit (map_of r) (8 + i) ≡ get_or (not (eqb r.count 1) ∷ not (eqb r.node 0) ∷ r.take ∷ []) i false
   high_bit i =
       let e : (8 + i) - 8 ≡ i = omega arith in
-      bit_is (8 + i) ∙ (get_or_append_right (map (λ (v : ℤ). not (is_zero v)) r.row) (not (eqb r.count 1) ∷ not (eqb r.node 0) ∷ r.take ∷ []) 8 (8 + i) false (length_set_columns r eight) (omega arith) ∙ ap (λ n. get_or (not (eqb r.count 1) ∷ not (eqb r.node 0) ∷ r.take ∷ []) n false) e)
+      bit_is (8 + i) ∙ (get_or-append_right (map (λ (v : ℤ). not (is_zero v)) r.row) (not (eqb r.count 1) ∷ not (eqb r.node 0) ∷ r.take ∷ []) 8 (8 + i) false (length_set_columns r eight) (omega arith) ∙ ap (λ n. get_or (not (eqb r.count 1) ∷ not (eqb r.node 0) ∷ r.take ∷ []) n false) e)
 
   pub count_bit : bit (map_of r) 8 ≡ not (eqb r.count 1)
   count_bit = high_bit 0

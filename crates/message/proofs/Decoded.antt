@@ -1,8 +1,8 @@
 -- Bytes that are read as a record are the bytes of that record.
 use Rattle.std.proofs.Common.{◌≡◌, ℕ, zero, suc, ◌+◌, ◌-◌, ◌*◌, ◌^◌, ◌<◌, ◌≤◌, Bool, true, false, cond, not, ◌&&◌, ◌||◌, eqb, ltb, leb, ◌⊎◌, List, [], ◌∷◌, ◌++◌, map, length, get_or, take, ℤ, pos, Some, None, Ok, Err, Option, sym, refl, ap, ◌∙◌, subst, ⊎_elim, append_assoc, arith, w32, to_z}
 use Rattle.std.specs.List.{flat_map}
-use Rattle.std.proofs.lemmas.List.{length-append, length_push, get_or_push, get_or_append_left, get_or_append_right, get_or-map, append-nil}
-use Rattle.std.proofs.lemmas.Bool.{not_true, le-leb, ne_eqb, ltb-true, leb-true, and_parts, and_from, cases_lt}
+use Rattle.std.proofs.lemmas.List.{length-append, length_push, get_or_push, get_or_append_left, get_or-append_right, get_or-map, append-nil}
+use Rattle.std.proofs.lemmas.Bool.{not-true, le-leb, ne_eqb, ltb-true, leb-true, and_parts, and_from, cases_lt}
 use Rattle.message.specs.declared.record.Record.{Record}
 use Rattle.bag.specs.Refusal.{refusal}
 use Rattle.bag.specs.Bytes.{in_four, in_two, Bytes}
@@ -28,7 +28,7 @@ Fields stands bytes absent fine lawful xs None = Unit {0}
 Fields stands bytes absent fine lawful xs (Some p) = (not stands || fine p.0) ≡ true → Field stands bytes absent lawful xs p.0 p.1
 
 plain_nonzero : (v : ℤ) → column_allowed v ≡ true → is_zero v ≡ false
-plain_nonzero v e = not_true (is_zero v) (and_parts (not (is_zero v)) (column_lawful v) e).0
+plain_nonzero v e = not-true (is_zero v) (and_parts (not (is_zero v)) (column_lawful v) e).0
 
 plain_lawful : (v : ℤ) → column_allowed v ≡ true → column_lawful v ≡ true
 plain_lawful v e = (and_parts (not (is_zero v)) (column_lawful v) e).1
@@ -210,7 +210,7 @@ map_was r m eight under low count node take =
         ∙ (get_or-map (λ (v : ℤ). not (is_zero v)) r.row k (pos 0) false (omega arith) ∙ sym (low k l)))
         (λ l.
         let e : 8 + (k - 8) ≡ k = omega arith in
-        get_or_append_right (map (λ (v : ℤ). not (is_zero v)) r.row) (not (eqb r.count 1) ∷ not (eqb r.node 0) ∷ r.take ∷ []) 8 k false (length_set_columns r eight) l
+        get_or-append_right (map (λ (v : ℤ). not (is_zero v)) r.row) (not (eqb r.count 1) ∷ not (eqb r.node 0) ∷ r.take ∷ []) 8 k false (length_set_columns r eight) l
         ∙ (high_each (k - 8) (omega (arith, eleven)) ∙ ap (bit m) e))
         (cases_lt k 8)
 

@@ -6,7 +6,7 @@
 use Rattle.std.proofs.Common.{◌≡◌, ℕ, zero, suc, ◌+◌, ◌<◌, ◌≤◌, Bool, true, false, cond, List, [], ◌∷◌, length, get_or, set, replicate, ℤ, pos, ◌+ℤ◌, is_some, Some, None, Option, Equal, sym, refl, ap, ◌∙◌, subst, ⊎_elim, arith}
 use lib.IntN.{+ℤ_idl}
 use Rattle.std.specs.List.{AllByRecursion}
-use Rattle.std.proofs.lemmas.List.{length-set, get_or-set_same, get_or_set_other, get_or_past, ext_get_or}
+use Rattle.std.proofs.lemmas.List.{length-set, get_or-set_same, get_or-set_other, get_or_past, ext_get_or}
 use Rattle.std.proofs.lemmas.Bool.{cases_eq}
 use Rattle.bag.specs.declared.lines.StockLine.{StockLine}
 use Rattle.bag.specs.Order.{Row, row_order, stock_line_order}
@@ -56,7 +56,7 @@ one_shelf_changed xs ys s b l here other =
     by : (i : ℕ) → i ≤ 15 → get_or (shelves_of ys) i [] ≡ get_or (set (shelves_of xs) s b) i []
     by i h =
         ⊎_elim (λ (e : i ≡ s). let m = length_shelves xs in ap (λ j. get_or (shelves_of ys) j []) e ∙ shelf_at s ys l ∙ here ∙ sym (get_or-set_same (shelves_of xs) s b [] (omega arith)) ∙ ap (λ j. get_or (set (shelves_of xs) s b) j []) (sym e))
-        (λ (e : i ≡ s → ⊥). shelf_at i ys h ∙ other i e ∙ sym (shelf_at i xs h) ∙ sym (get_or_set_other (shelves_of xs) s i b [] e))
+        (λ (e : i ≡ s → ⊥). shelf_at i ys h ∙ other i e ∙ sym (shelf_at i xs h) ∙ sym (get_or-set_other (shelves_of xs) s i b [] e))
         (cases_eq i s)
 
 module _ (law : Lawful stock_line_order) (e : StockLine) (xs ys : List StockLine)

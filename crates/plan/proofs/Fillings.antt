@@ -1,6 +1,6 @@
 -- A list of fields of one kind, read one by one into places that were blank.
 use Rattle.std.proofs.Common.{◌≡◌, ℕ, suc, ◌+◌, ◌-◌, ◌<◌, ◌≤◌, List, [], ◌∷◌, ◌++◌, length, take, drop, set, replicate, Ok, Err, sym, refl, ap, ◌∙◌, append_assoc, append-nil, arith}
-use Rattle.std.proofs.lemmas.List.{length-set, length-replicate, length-take-le, take_more_set, take-append-drop, drop_set_lt, drop-drop, drop-replicate}
+use Rattle.std.proofs.lemmas.List.{length-set, length-replicate, length-take-le, take_more_set, take-append-drop, drop-set-lt, drop-drop, drop-replicate}
 use Rattle.plan.specs.declared.fault.Cause.{Cause}
 use Rattle.plan.specs.Fields.{Read, then, items, padded, listed}
 
@@ -63,7 +63,7 @@ module _ {X : Type 0} (reader : List ℕ → Read X) where
           record {
             long = length-set list i x ∙ long;
             read = ap (λ ys. before ys (items reader (n - (i + 1)) left)) (take_more_set list i x inside) ∙ (before_more (take i list) x (items reader (n - (i + 1)) left) ∙ (ap (before (take i list)) (sym g) ∙ f.read));
-            blanks = drop_set_lt (i + 1) list i x (omega arith) ∙ (sym (drop-drop 1 i list) ∙ (ap (drop 1) f.blanks ∙ (drop-replicate 1 (size - i) blank ∙ ap (λ k. replicate k blank) t)));
+            blanks = drop-set-lt (i + 1) list i x (omega arith) ∙ (sym (drop-drop 1 i list) ∙ (ap (drop 1) f.blanks ∙ (drop-replicate 1 (size - i) blank ∙ ap (λ k. replicate k blank) t)));
             left = omega (arith, f.left);
           }
 

@@ -4,7 +4,7 @@
 --     copies_are, canonical_of      what is known of a lawful holding
 use Rattle.std.proofs.Common.{◌≡◌, ℕ, ◌<◌, ◌≤◌, List, [], length, get_or, set, ℤ, pos, ◌+ℤ◌, sym, ap, ◌∙◌, subst, ap₂, ⊎_elim, arith}
 use lib.IntN.{+ℤ_idl}
-use Rattle.std.proofs.lemmas.List.{ext_get_or, get_or-set_same, get_or_set_other, set_past}
+use Rattle.std.proofs.lemmas.List.{ext_get_or, get_or-set_same, get_or-set_other, set_past}
 use Rattle.std.proofs.lemmas.Int.{ints}
 use Rattle.std.proofs.lemmas.Bool.{cases_eq, cases_lt}
 use Rattle.bag.specs.Order.{Row, row_order}
@@ -38,7 +38,7 @@ count_with_copies h s r z t q l =
     let o : row_order (key s r) (key t q) ≡ row_order r q = ap (λ u. row_order (key u r) (key t q)) e ∙ key_same t r q in
     ap (λ xs. count xs q) at ∙ count_add_copies r z (shelf_of h t) q ∙ ap (λ p. if_equal p z +ℤ count (shelf_of h t) q) (sym o))
     (λ (n : s ≡ t → ⊥).
-    let at : shelf_of (with_copies h s r z) t ≡ shelf_of h t = get_or_set_other h.shelves s t (add_copies r z (shelf_of h s)) [] (λ e. n (sym e)) in
+    let at : shelf_of (with_copies h s r z) t ≡ shelf_of h t = get_or-set_other h.shelves s t (add_copies r z (shelf_of h s)) [] (λ e. n (sym e)) in
     ap (λ xs. count xs q) at ∙ sym (ap (λ y. y +ℤ count (shelf_of h t) q) (other_shelf s t r q z n) ∙ +ℤ_idl (count (shelf_of h t) q)))
     (cases_eq s t)
 
@@ -49,7 +49,7 @@ each_shelf P h s r z c n t =
     ⊎_elim (λ (l : s < length h.shelves). subst (λ u. P (get_or (set h.shelves s (add_copies r z (shelf_of h s))) u [])) (sym e) (subst P (sym (get_or-set_same h.shelves s (add_copies r z (shelf_of h s)) [] l)) n))
     (λ (l : length h.shelves ≤ s). subst (λ (b : List Lines). P (get_or b t [])) (sym (set_past h.shelves s (add_copies r z (shelf_of h s)) l)) (c t))
     (cases_lt s (length h.shelves)))
-    (λ (n : t ≡ s → ⊥). subst P (sym (get_or_set_other h.shelves s t (add_copies r z (shelf_of h s)) [] n)) (c t))
+    (λ (n : t ≡ s → ⊥). subst P (sym (get_or-set_other h.shelves s t (add_copies r z (shelf_of h s)) [] n)) (c t))
     (cases_eq t s)
 
 pub canonical_with_copies : (h : Holding) (s : ℕ) (r : Row) (z : ℤ) → ((t : ℕ) → Canonical (shelf_of h t)) → (t : ℕ) → Canonical (shelf_of (with_copies h s r z) t)

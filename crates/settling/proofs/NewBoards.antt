@@ -5,7 +5,7 @@
 use Rattle.std.proofs.Common.{◌≡◌, ℕ, zero, suc, ◌+◌, ◌-◌, ◌<◌, ◌≤◌, List, [], ◌∷◌, length, get_or, drop, pos, ◌+ℤ◌, ◌≤ℤ◌, sym, refl, ap, ◌∙◌, subst, ⊎_elim, arith}
 use lib.IntN.{+ℤ_idr}
 use Rattle.std.specs.List.{AllByRecursion as All}
-use Rattle.std.proofs.lemmas.List.{length-append, length-drop, get_or_append_left, get_or_append_right, get_or-drop, get_or_past}
+use Rattle.std.proofs.lemmas.List.{length-append, length-drop, get_or_append_left, get_or-append_right, get_or-drop, get_or_past}
 use Rattle.std.proofs.ByRecursion.{All-get_or}
 use Rattle.std.proofs.lemmas.Int.{ints}
 use Rattle.std.proofs.lemmas.Bool.{cases_lt}
@@ -50,7 +50,7 @@ module _ (h : Holding) (news : List Lines) (law : LawfulHolding h) (boards : New
 
   old_shelf : (s : ℕ) → length news ≤ s → shelf_of (replaced h news) s ≡ shelf_of h s
   old_shelf s m =
-      get_or_append_right news (drop (length news) h.shelves) (length news) s [] refl m
+      get_or-append_right news (drop (length news) h.shelves) (length news) s [] refl m
       ∙ get_or-drop (length news) h.shelves (s - length news) []
       ∙ ap (λ n. get_or h.shelves n []) (let e : length news + (s - length news) ≡ s = omega arith in e)
 

@@ -5,7 +5,7 @@
 use Rattle.std.proofs.Common.{◌≡◌, ℕ, zero, suc, ◌+◌, ◌<◌, ◌≤◌, Bool, true, false, cond, ltb, List, [], ◌∷◌, length, get_or, set, ℤ, pos, negsuc, ◌+ℤ◌, nat_abs, ◌≤ℤ◌, ◌<ℤ◌, Ok, Err, Result, Equal, sym, refl, ap, ◌∙◌, subst, ⊎_elim, arith}
 use lib.IntN.{+ℤ_idl}
 use Rattle.std.proofs.lemmas.Int.{ints}
-use Rattle.std.proofs.lemmas.List.{length-set, get_or-set_same, get_or_set_other}
+use Rattle.std.proofs.lemmas.List.{length-set, get_or-set_same, get_or-set_other}
 use Rattle.std.proofs.lemmas.Bool.{ltb-false, cases_eq}
 use Rattle.bag.specs.Order.{Row, row_order}
 use Rattle.bag.specs.Bag.{Lines, is_positive, if_equal, count, add_copies, Canonical, Positive, IsBag, EachRow}
@@ -78,7 +78,7 @@ module _ (h : Holding) (lawful : LawfulHolding h) (s : ℕ) (r : Row) (low : s �
   shelf_here = let l = lawful.sixteen in get_or-set_same h.shelves s (add_copies r z (shelf_of h s)) [] (omega arith)
 
   shelf_other : (t : ℕ) → (t ≡ s → ⊥) → shelf_of (with_copies h s r z) t ≡ shelf_of h t
-  shelf_other t ne = get_or_set_other h.shelves s t (add_copies r z (shelf_of h s)) [] ne
+  shelf_other t ne = get_or-set_other h.shelves s t (add_copies r z (shelf_of h s)) [] ne
 
   count_here : (q : Row) → count (add_copies r z (shelf_of h s)) q ≡ if_equal (row_order r q) z +ℤ pos (copies h s q)
   count_here q = count_add_copies r z (shelf_of h s) q ∙ ap (λ k. if_equal (row_order r q) z +ℤ k) (count_is_copies h lawful s q)

@@ -1,5 +1,5 @@
 use Rattle.std.proofs.Common.{◌≡◌, ℕ, suc, ◌+◌, ◌<◌, ◌≤◌, ◌≢◌, List, [], ◌++◌, length, get_or, take, drop, set, Ok, Err, sym, refl, ap, ◌∙◌, subst, arith, rules}
-use Rattle.std.proofs.lemmas.List.{length-take, length-set, get_or-set_same, get_or_set_other}
+use Rattle.std.proofs.lemmas.List.{length-take, length-set, get_or-set_same, get_or-set_other}
 use Rattle.bag.specs.Bag.{Lines}
 use Rattle.plan.specs.declared.node.Node.TheVariants.{Base}
 use Rattle.plan.specs.Afresh.{board, afresh}
@@ -70,7 +70,7 @@ loop-i-preserved g c = (
       let fits : c.in-Ok.used ≤ c.loop-i.filling.room = subst (λ n. c.in-Ok.used ≤ n) (sym c.loop-i.invariant.1) c.if-used-room.false in
       let long = c.loop-i.invariant.0 in
       let old : (j : ℕ) → j ≤ i → get_or (set c.loop-i.filling.starts (i + 1) c.in-Ok.used) j 0 ≡ get_or c.loop-i.filling.starts j 0 =
-      λ j l. let ne : j ≢ i + 1 = omega arith in get_or_set_other c.loop-i.filling.starts (i + 1) j c.in-Ok.used 0 ne in
+      λ j l. let ne : j ≢ i + 1 = omega arith in get_or-set_other c.loop-i.filling.starts (i + 1) j c.in-Ok.used 0 ne in
       let last : get_or (set c.loop-i.filling.starts (i + 1) c.in-Ok.used) (i + 1) 0 ≡ c.in-Ok.used = get_or-set_same c.loop-i.filling.starts (i + 1) c.in-Ok.used 0 (omega (arith, here, few, long)) in (
         ends ∙ ap (λ n. n + length (board ms i)) inv.0 ∙ net_next ms i (omega (arith, here, many)),
         plan_more M L p k h law (board ms) net net' few ready i here c.loop-i.filling.room c.loop-i.sheet c.loop-i.filling.used c.loop-i.filling.starts inv.1 c.change-of-node.new.sheet c.change-of-node.result made c.in-Ok.used c.in-Ok.is fits (set c.loop-i.filling.starts (i + 1) c.in-Ok.used) old last,
