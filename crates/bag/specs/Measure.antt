@@ -2,7 +2,7 @@
 --     Measure V             group, the worth of v at n copies, whether a value fits, K, the columns shown, the value read back from them
 --     ShownColumn c        c is a signed 32-bit number other than −2,147,483,648
 --     MeasureLaws ok M     what a measure owes
---     head_count            the measure of one value, of which its laws are asked (`any_head`)
+--     copies_alone          the measure of one value
 use Rattle.std.specs.Prelude.{◌≡◌, ℕ, ◌<◌, ◌≤◌, Bool, true, List, [], ◌∷◌, length, ℤ, unsigned_abs}
 use Rattle.bag.specs.Group.{Group, GroupLaws, AddsUp}
 
@@ -36,16 +36,13 @@ pub record MeasureLaws {V : Type 0} (ok : V → Type 0) (M : Measure V) : Type 0
   pub at_most_eight : M.shows ≤ 8
   pub showing : M.shows < 8 → ShowingLaws ok M
 
-abbrev pub any_head : Unit {0} → Type 0
-any_head v = Unit {0}
-
 -- one value and no column: a total shows the copies of each group alone
-abbrev pub head_count : Measure (Unit {0})
-head_count = record {
-  group = record { zero = tt; plus = λ a b. tt; minus = λ a. tt };
-  worth = λ v n. tt;
+abbrev pub copies_alone : Measure ℕ
+copies_alone = record {
+  group = record { zero = 0; plus = λ x y. 0; minus = λ x. 0 };
+  worth = λ v n. 0;
   fits = λ v. true;
   shows = 0;
   columns = λ v. [];
-  reads = λ columns. tt;
+  reads = λ cs. 0;
 }

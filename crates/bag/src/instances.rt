@@ -1,6 +1,7 @@
 // One instance of each trait of `laws`, so that what is promised for all of them is promised of something.
+ghost use Rattle.std.specs.Prelude.{◌≡◌};
 ghost use Rattle.bag.specs.Group.{every_integer, integers};
-ghost use Rattle.bag.specs.Measure.{any_head, head_count};
+ghost use Rattle.bag.specs.Measure.{copies_alone};
 ghost use Rattle.bag.specs.Integers.{integer_laws};
 ghost use Rattle.std.proofs.Common.{rules};
 
@@ -24,11 +25,11 @@ impl Worth for Copies {
 }
 
 impl Aggregate for Copies {
-    type Value = ();
+    type Value = u8;
 
-    ghost ok = { any_head };
+    ghost ok = { λ v. v ≡ 0 };
 
-    ghost measure = { head_count };
+    ghost measure = { copies_alone };
 
     ghost lawful = { Prim.search rules };
 }

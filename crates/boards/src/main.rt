@@ -1,3 +1,5 @@
+#![tactic(auto)]
+
 // The program `boards`, first form: reads a plan and messages from the standard input, and shows each message's records.
 mod frame;
 mod show;

@@ -1,3 +1,5 @@
+#![tactic(auto)]
+
 // The trait `Measure` with its laws (`measure`), and the measures: `head_count`, `sum`, `check_mark`, and two of them `side_by_side`.
 // `columns` moves columns between rows; `follow` keeps the value of a bag's column from changes alone; `round_trip` shows a value and
 // reads it back.

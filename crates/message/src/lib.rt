@@ -1,3 +1,5 @@
+#![tactic(auto)]
+
 // Movement messages: what gates write, read into records and written back.
 // `record` and `fault` have a record and the refusals; `map` has the bits of a map, `field` cuts fields from bytes, `put` lays them into a buffer.
 // `reader` is the cursor, `record_list` a whole message, `writer` the way back; `round_trip` and `laws` say what holds of both.

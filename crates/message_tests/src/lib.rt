@@ -1,3 +1,5 @@
+#![tactic(auto)]
+
 // Examples of reading and writing messages, at the edge of each refusal.
 
 #[cfg(test)]

@@ -1,3 +1,5 @@
+#![tactic(auto)]
+
 // Plans with their expected answers: each cause at each operator where it can occur, and the edges of every limit.
 
 #[cfg(test)]
