@@ -6,4 +6,4 @@ pub returns : goal.returns
 returns c =
     let b = c.args.input.now in
     let two : 2 ≤ length b = search rules in
-    framed_whole b c.split-at.result.0.now c.split-at.result.1.now c.from-be-bytes-length.result two c.from-be-bytes-length.ensures c.if-rest-length.false c.split-at.ensures.front c.split-at.ensures.back
+    framed_whole b c.split_at.result.0.now c.split_at.result.1.now c.from_be_bytes-length.result two c.from_be_bytes-length.ensures c.if-rest-length.false c.split_at.ensures.front c.split_at.ensures.back

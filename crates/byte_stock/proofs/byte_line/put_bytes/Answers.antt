@@ -6,5 +6,5 @@ pub returns : goal.returns
 returns c =
     record {
       end = refl;
-      after = laid_by_copy c.args.bytes.now c.args.part.now c.copy-from-slice.new.self c.args.at c.copy-from-slice.ensures.after;
+      after = laid_by_copy c.args.bytes.now c.args.part.now c.copy_from_slice.new.self c.args.at c.copy_from_slice.ensures.after;
     }

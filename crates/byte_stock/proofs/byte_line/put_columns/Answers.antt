@@ -11,8 +11,8 @@ use Rattle.byte_stock.proofs.byte_line.put_columns.Goals as goal
 pub loop-k-init : goal.loop-k-init
 loop-k-init c = (omega arith, sym (laid_nothing c.args.bytes.now c.args.at ∙ take-append-drop c.args.at c.args.bytes.now))
 
-pub put-column-place-requires : goal.put-column-place-requires
-put-column-place-requires c =
+pub put_column-place-requires : goal.put_column-place-requires
+put_column-place-requires c =
     let n = length_first_columns c.args.row.now c.loop-k.k (omega arith) in
     omega arith
 
@@ -28,8 +28,8 @@ loop-k-preserved c =
     let lt : k < length row = omega arith in
     let n = length_first_columns row k (omega arith) in
     let room : at + length xs ≤ length b = omega arith in
-    let e : c.put-column-place.result ≡ c.loop-k.place + length (in_four v) = c.put-column-place.ensures.end in
-    let a : c.put-column-place.new.bytes ≡ laid c.loop-k.bytes c.loop-k.place (in_four v) = rw (to_z-of_z w32 v f) at c.put-column-place.ensures.after in
+    let e : c.put_column-place.result ≡ c.loop-k.place + length (in_four v) = c.put_column-place.ensures.end in
+    let a : c.put_column-place.new.bytes ≡ laid c.loop-k.bytes c.loop-k.place (in_four v) = rw (to_z-of_z w32 v f) at c.put_column-place.ensures.after in
     let j = columns_step row k (pos 0) lt in (
       e ∙ (ap (λ p. p + length (in_four v)) c.loop-k.invariant.0 ∙ omega (arith, ap length j, length-append xs (in_four v))),
       a ∙ (simp (c.loop-k.invariant.0, c.loop-k.invariant.1) (laid_more b at xs room (in_four v)) ∙ ap (laid b at) (sym j)),

@@ -8,10 +8,10 @@ returns-then-n-eq0 c h small q p = left_idle c.args.bytes.now c.args.used c.args
 pub returns-then-used-room : goal.returns-then-used-room
 returns-then-used-room c h small q p =
     let f = c.ranges.n in
-    left_full c.args.bytes.now c.args.used c.args.shelf c.args.row.now c.args.n h small p c.room-in-room.result c.room-in-room.ensures.answer (omega arith) (omega arith) (omega arith)
+    left_full c.args.bytes.now c.args.used c.args.shelf c.args.row.now c.args.n h small p c.room_in-room.result c.room_in-room.ensures.answer (omega arith) (omega arith) (omega arith)
 
 pub returns : goal.returns
 returns c h small q p =
     let f = c.ranges.n in
-    let e = c.room-in-room.ensures.answer in
-    left_new c.args.bytes.now c.args.used c.args.shelf c.args.row.now c.args.n h small p q c.write-line.new.bytes (omega arith) (omega arith) (omega arith) c.write-line.ensures c.write-line.auto.bytes
+    let e = c.room_in-room.ensures.answer in
+    left_new c.args.bytes.now c.args.used c.args.shelf c.args.row.now c.args.n h small p q c.write_line.new.bytes (omega arith) (omega arith) (omega arith) c.write_line.ensures c.write_line.auto.bytes

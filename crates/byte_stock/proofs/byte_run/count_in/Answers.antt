@@ -12,9 +12,9 @@ returns-in-Some c h =
     let r = c.args.row.now in
     let i = c.in-Some.place in
     let m = h.room in
-    let a = c.room-in.ensures.answer in
+    let a = c.room_in.ensures.answer in
     let e : c.min-used.result ≡ len = omega arith in
-    ap (λ (l : StockLine). l.count) c.line-at.ensures ∙ sym (count_found b len s r h i (subst (λ k. AtPlace b k s r i) e c.in-Some.ensures))
+    ap (λ (l : StockLine). l.count) c.line_at.ensures ∙ sym (count_found b len s r h i (subst (λ k. AtPlace b k s r i) e c.in-Some.ensures))
 
 pub returns-in-None : goal.returns-in-None
 returns-in-None c h =
@@ -23,6 +23,6 @@ returns-in-None c h =
     let s = c.args.shelf in
     let r = c.args.row.now in
     let m = h.room in
-    let a = c.room-in.ensures.answer in
+    let a = c.room_in.ensures.answer in
     let e : c.min-used.result ≡ len = omega arith in
     sym (count_none b len s r h (subst (λ k. Nowhere b k s r) e c.in-None.ensures))

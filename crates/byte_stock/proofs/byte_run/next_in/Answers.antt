@@ -16,11 +16,11 @@ returns-then-place-used c h =
     let s = c.args.shelf in
     let r = c.args.row.now in
     let m = h.room in
-    let a = c.room-in.ensures.answer in
-    let w = c.find-next-place.ensures.within in
+    let a = c.room_in.ensures.answer in
+    let w = c.find_next-place.ensures.within in
     let e : c.min-used.result ≡ len = omega arith in
-    let f : c.find-next-place.result ≡ len = omega arith in
-    sym (best_nothing b len s r h (subst (Best b len s r len) f (subst (λ k. Best b k s r k c.find-next-place.result) e c.find-next-place.ensures)))
+    let f : c.find_next-place.result ≡ len = omega arith in
+    sym (best_nothing b len s r h (subst (Best b len s r len) f (subst (λ k. Best b k s r k c.find_next-place.result) e c.find_next-place.ensures)))
 
 pub returns : goal.returns
 returns c h =
@@ -28,8 +28,8 @@ returns c h =
     let len = c.args.len in
     let s = c.args.shelf in
     let r = c.args.row.now in
-    let i = c.find-next-place.result in
+    let i = c.find_next-place.result in
     let m = h.room in
-    let a = c.room-in.ensures.answer in
+    let a = c.room_in.ensures.answer in
     let e : c.min-used.result ≡ len = omega arith in
-    told_line c.line-at-line.result (line_at b i) c.line-at-line.ensures (best_next b len s r h i (subst (λ k. Best b k s r k i) e c.find-next-place.ensures) (omega arith))
+    told_line c.line_at-line.result (line_at b i) c.line_at-line.ensures (best_next b len s r h i (subst (λ k. Best b k s r k i) e c.find_next-place.ensures) (omega arith))

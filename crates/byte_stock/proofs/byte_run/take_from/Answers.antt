@@ -9,15 +9,15 @@ pub returns-then-count-n : goal.returns-then-count-n
 returns-then-count-n c h small q p =
     let b = c.args.bytes.now in
     let i = c.args.place in
-    let e : c.line-at-count.result.count ≡ (line_at b i).count = ap (λ (l : StockLine). l.count) c.line-at-count.ensures in
+    let e : c.line_at-count.result.count ≡ (line_at b i).count = ap (λ (l : StockLine). l.count) c.line_at-count.ensures in
     taken_short b c.args.used c.args.shelf c.args.row.now c.args.n h small i p (omega arith)
 
 pub returns-then-count-n-2 : goal.returns-then-count-n-2
 returns-then-count-n-2 c h small q p =
     let b = c.args.bytes.now in
     let i = c.args.place in
-    let e : c.line-at-count.result.count ≡ (line_at b i).count = ap (λ (l : StockLine). l.count) c.line-at-count.ensures in
-    taken_all b c.args.used c.args.shelf c.args.row.now c.args.n h small i p c.free-line.new.bytes (sym e ∙ c.if-count-n-2.true) c.free-line.ensures c.free-line.auto.bytes
+    let e : c.line_at-count.result.count ≡ (line_at b i).count = ap (λ (l : StockLine). l.count) c.line_at-count.ensures in
+    taken_all b c.args.used c.args.shelf c.args.row.now c.args.n h small i p c.free_line.new.bytes (sym e ∙ c.if-count-n-2.true) c.free_line.ensures c.free_line.auto.bytes
 
 pub returns : goal.returns
 returns c h small q p =
@@ -26,7 +26,7 @@ returns c h small q p =
     let r = c.args.row.now in
     let n = c.args.n in
     let i = c.args.place in
-    let e : c.line-at-count.result.count ≡ (line_at b i).count = ap (λ (l : StockLine). l.count) c.line-at-count.ensures in
-    taken_some b c.args.used s r n h small i p q c.write-line.new.bytes (omega arith)
-    (c.write-line.ensures ∙ ap (λ k. laid b (35 * i) (line_bytes (new_line s r (k - n)))) e)
-    c.write-line.auto.bytes
+    let e : c.line_at-count.result.count ≡ (line_at b i).count = ap (λ (l : StockLine). l.count) c.line_at-count.ensures in
+    taken_some b c.args.used s r n h small i p q c.write_line.new.bytes (omega arith)
+    (c.write_line.ensures ∙ ap (λ k. laid b (35 * i) (line_bytes (new_line s r (k - n)))) e)
+    c.write_line.auto.bytes

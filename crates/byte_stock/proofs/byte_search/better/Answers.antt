@@ -24,25 +24,25 @@ module _ (b : List ℕ) (len s : ℕ) (r : Row) (i k : ℕ) (line : StockLine) (
       ∙ cond-false (eqb i len) k _ (ne_eqb i len q)
       ∙ ap (λ x. if_less x k i) (ap₂ (λ (x y : StockLine). row_order x.row y.row) (sym here) (sym best) ∙ sym f))
 
-pub returns-then-not-comes-after : goal.returns-then-not-comes-after
-returns-then-not-comes-after c =
-    stays c.args.bytes.now c.args.len c.args.shelf c.args.row.now c.args.best c.args.place c.line-at-line.result c.line-at-line.ensures (sym c.comes_after.ensures ∙ c.if-not-comes-after.true)
+pub returns-then-not-comes_after : goal.returns-then-not-comes_after
+returns-then-not-comes_after c =
+    stays c.args.bytes.now c.args.len c.args.shelf c.args.row.now c.args.best c.args.place c.line_at-line.result c.line_at-line.ensures (sym c.comes_after.ensures ∙ c.if-not-comes_after.true)
 
 pub returns-then-best-len : goal.returns-then-best-len
 returns-then-best-len c =
-    moves c.args.bytes.now c.args.len c.args.shelf c.args.row.now c.args.best c.args.place c.line-at-line.result c.line-at-line.ensures (sym c.comes_after.ensures ∙ c.if-not-comes-after.false) c.if-best-len.true
+    moves c.args.bytes.now c.args.len c.args.shelf c.args.row.now c.args.best c.args.place c.line_at-line.result c.line_at-line.ensures (sym c.comes_after.ensures ∙ c.if-not-comes_after.false) c.if-best-len.true
 
 pub returns-in-Less : goal.returns-in-Less
 returns-in-Less c =
-    judged c.args.bytes.now c.args.len c.args.shelf c.args.row.now c.args.best c.args.place c.line-at-line.result c.line-at-line.ensures
-    c.line-at-least.result c.line-at-least.ensures (sym c.comes_after.ensures ∙ c.if-not-comes-after.false) c.if-best-len.false Less c.in-Less.ensures
+    judged c.args.bytes.now c.args.len c.args.shelf c.args.row.now c.args.best c.args.place c.line_at-line.result c.line_at-line.ensures
+    c.line_at-least.result c.line_at-least.ensures (sym c.comes_after.ensures ∙ c.if-not-comes_after.false) c.if-best-len.false Less c.in-Less.ensures
 
 pub returns-in-Equal : goal.returns-in-Equal
 returns-in-Equal c =
-    judged c.args.bytes.now c.args.len c.args.shelf c.args.row.now c.args.best c.args.place c.line-at-line.result c.line-at-line.ensures
-    c.line-at-least.result c.line-at-least.ensures (sym c.comes_after.ensures ∙ c.if-not-comes-after.false) c.if-best-len.false Equal c.in-Equal.ensures
+    judged c.args.bytes.now c.args.len c.args.shelf c.args.row.now c.args.best c.args.place c.line_at-line.result c.line_at-line.ensures
+    c.line_at-least.result c.line_at-least.ensures (sym c.comes_after.ensures ∙ c.if-not-comes_after.false) c.if-best-len.false Equal c.in-Equal.ensures
 
 pub returns-in-Greater : goal.returns-in-Greater
 returns-in-Greater c =
-    judged c.args.bytes.now c.args.len c.args.shelf c.args.row.now c.args.best c.args.place c.line-at-line.result c.line-at-line.ensures
-    c.line-at-least.result c.line-at-least.ensures (sym c.comes_after.ensures ∙ c.if-not-comes-after.false) c.if-best-len.false Greater c.in-Greater.ensures
+    judged c.args.bytes.now c.args.len c.args.shelf c.args.row.now c.args.best c.args.place c.line_at-line.result c.line_at-line.ensures
+    c.line_at-least.result c.line_at-least.ensures (sym c.comes_after.ensures ∙ c.if-not-comes_after.false) c.if-best-len.false Greater c.in-Greater.ensures

@@ -32,5 +32,5 @@ returns g c =
           let line : (fs : List ChangeLine) → OnSheet room c.args.sheet.now c.args.walk.used fs → OnSheet room c.push.new.sheet c.push.result (fs ++ (change_line k (c.args.row.now, c.args.change) ∷ [])) =
           λ fs o. subst (λ z. OnSheet room c.push.new.sheet c.push.result (fs ++ (change_line k (c.args.row.now, z) ∷ []))) (to_z-of_z w32 c.args.change c.ranges.change) (c.push.ensures.after fs o) in
           walked_more h k room es d c.args.row.now c.args.change c.args.sheet.now c.push.new.sheet c.args.walk.used c.push.result c.args.walk.over _ some w line
-          (ap (λ t. c.args.walk.over || t) (c.is-over.ensures s ∙ ap (λ z. not (within_count (count (shelf_of h k) c.args.row.now +ℤ z))) (to_z-of_z w32 c.args.change c.ranges.change)));
+          (ap (λ t. c.args.walk.over || t) (c.is_over.ensures s ∙ ap (λ z. not (within_count (count (shelf_of h k) c.args.row.now +ℤ z))) (to_z-of_z w32 c.args.change c.ranges.change)));
     }

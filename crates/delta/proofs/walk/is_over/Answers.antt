@@ -10,5 +10,5 @@ pub returns : goal.returns
 returns g c = λ (s : g.S.Stock.sound c.args.stock.now).
     let h = g.S.Stock.meaning c.args.stock.now in
     let is = count_is_copies h (g.S.Stock.lawful c.args.stock.now s) c.args.node c.args.row.now in
-    ap (lt_z (pos 65535)) (sum_is c.count.result c.args.change c.count.type-inv c.ranges.change ∙ ap (λ x. x +ℤ c.args.change) (ap pos (c.count.ensures.answer s) ∙ sym is))
+    ap (lt_z (pos 65535)) (sum_is c.count.result c.args.change c.count.type_inv c.ranges.change ∙ ap (λ x. x +ℤ c.args.change) (ap pos (c.count.ensures.answer s) ∙ sym is))
     ∙ over_is (count (shelf_of h c.args.node) c.args.row.now +ℤ c.args.change)

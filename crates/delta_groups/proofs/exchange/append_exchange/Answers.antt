@@ -43,6 +43,6 @@ returns-in-Some-Some g c =
     record {
       long = search rules;
       after = λ (es : List ChangeLine) (d : Lines) (s : g.S.Stock.sound c.args.stock.now) (w : Walked (g.S.Stock.meaning c.args.stock.now) c.args.node c.args.room c.args.sheet.now c.args.walk.used c.args.walk.over es d).
-          subst (Walked (g.S.Stock.meaning c.args.stock.now) c.args.node c.args.room c.append-both.new.sheet c.append-both.result.used c.append-both.result.over es)
-          (collect_both d c.in-Some-Some.old c.in-Some-Some.new ∙ told d _ _ c.args.old c.args.new c.in-Some-Some.is-0 c.in-Some-Some.is-1) (c.append-both.ensures.after es d s w);
+          subst (Walked (g.S.Stock.meaning c.args.stock.now) c.args.node c.args.room c.append_both.new.sheet c.append_both.result.used c.append_both.result.over es)
+          (collect_both d c.in-Some-Some.old c.in-Some-Some.new ∙ told d _ _ c.args.old c.args.new c.in-Some-Some.is-0 c.in-Some-Some.is-1) (c.append_both.ensures.after es d s w);
     }

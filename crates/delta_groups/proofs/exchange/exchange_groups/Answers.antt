@@ -50,8 +50,8 @@ loop-i-preserved g c =
     let z = c.index-values-i.result in
     let here : ◌≡◌ {A = ℤ × V} (delta l.row) (to_z w32 (of_z w32 l.change), z) = ap delta row ∙ deltas i no_line z i-fits ∙ ap₂ {C = ℤ × V} (λ x y. (x, y)) (sym net) (sym c.index-values-i.is) in
     let line : take i xs ++ ((l.row, to_z w32 (of_z w32 l.change)) ∷ []) ≡ take (i + 1) xs = ap₂ (λ (x : Row) (y : ℤ). take i xs ++ ((x, y) ∷ [])) row net ∙ sym (take_more xs i no_line i-fits) in
-    subst (Totalled M n delta h c.args.node c.args.room c.exchange-group-walk.new.sheet c.exchange-group-walk.result.walk.used c.exchange-group-walk.result.walk.over c.exchange-group-walk.result.wide es) line
-    (c.exchange-group-walk.ensures.after es (take i xs) delta s room (subst (Ready M n own delta) (sym row) (ready i no_line i-fits)) here was)
+    subst (Totalled M n delta h c.args.node c.args.room c.exchange_group-walk.new.sheet c.exchange_group-walk.result.walk.used c.exchange_group-walk.result.walk.over c.exchange_group-walk.result.wide es) line
+    (c.exchange_group-walk.ensures.after es (take i xs) delta s room (subst (Ready M n own delta) (sym row) (ready i no_line i-fits)) here was)
 
 pub returns : goal.returns
 returns g c =

@@ -10,7 +10,7 @@ pub returns-then-i-count : goal.returns-then-i-count
 returns-then-i-count c =
     let is = take c.args.count c.args.columns.now in
     let l = length-take c.args.count c.args.columns.now in
-    let f : SFits w32 c.column_of.result = record { sfits = c.column_of.type-inv } in
+    let f : SFits w32 c.column_of.result = record { sfits = c.column_of.type_inv } in
     let in_list : c.args.i < length is = omega arith in
     to_z-of_z w32 c.column_of.result f ∙ c.column_of.ensures
     ∙ ap (column_of c.args.row.now) (sym (get_or-take c.args.count c.args.columns.now c.args.i 0 c.if-i-count.true))

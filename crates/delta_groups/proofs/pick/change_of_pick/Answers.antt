@@ -32,10 +32,10 @@ returns g c =
           let lower = at.lower child low in
           let long = run_long (flattened 0 ds) c.args.run.from c.args.run.to child d run in
           let room : length d ≤ capacity c.new-table.result = let a = c.new-table.ensures.long in let b = c.min-len.ensures in let e = c.len.ensures in let t = length-take c.min-len.result c.args.work.now in omega arith in
-          let nets = c.gather-images.ensures.after c.args.room c.args.used (flattened 0 ds) child d fill.on_sheet fill.room_enough run (small_change h law child _ d (board news child) lower) room (nets_none c.new-table.result c.new-table.ensures.sound c.new-table.ensures.after) in
-          let w = c.append-nets.ensures.after (flattened 0 ds) xs s fill.on_sheet (c.entries.ensures.answer ∙ nets.entries) in
+          let nets = c.gather_images.ensures.after c.args.room c.args.used (flattened 0 ds) child d fill.on_sheet fill.room_enough run (small_change h law child _ d (board news child) lower) room (nets_none c.new-table.result c.new-table.ensures.sound c.new-table.ensures.after) in
+          let w = c.append_nets.ensures.after (flattened 0 ds) xs s fill.on_sheet (c.entries.ensures.answer ∙ nets.entries) in
           finished h law c.args.node ws (pick is (shelf_of h child)) ds news at (pick is (board news child))
           (operators_give_bags.of_pick is (board news child) lower.changes.new_bag)
           (without_zeros xs) (picked (listed is) d ∙ pick_follows_change is (shelf_of h child) d (board news child) lower.changes)
-          true c.append-nets.result.over w.told c.args.room c.append-nets.new.sheet c.append-nets.result.used (λ x y. w.on_sheet) c.finish.result c.finish.ensures;
+          true c.append_nets.result.over w.told c.args.room c.append_nets.new.sheet c.append_nets.result.used (λ x y. w.on_sheet) c.finish.result c.finish.ensures;
     }

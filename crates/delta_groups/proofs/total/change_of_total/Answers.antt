@@ -44,10 +44,10 @@ returns-then-groups g c =
           let room-is = subst (RoomForGroup M) width room in
           let ready = λ (k : Row) (key : IsGroup n k). subst (λ (m : ℕ). Ready M m (shelf_of h c.args.node) (group_of M j is d) k) (sym width)
           (ready_groups M L j is h law child _ d (board news child) lower (shelf_of h c.args.node) at.own room-is fits few k (subst (λ (m : ℕ). IsGroup m k) width key)) in
-          let was = c.walk-groups-groups.ensures.after (flattened 0 ds) child d s fill.on_sheet fill.room_enough run (small_change h law child _ d (board news child) lower) (omega arith) (omega arith) room ready in
-          total_finished M L j is h law c.args.node child ws ds news low at room-is fits c.args.room c.walk-groups-groups.new.sheet c.walk-groups-groups.result.walk.used c.walk-groups-groups.result.walk.over c.walk-groups-groups.result.wide
-          (subst (λ (m : ℕ). Totalled M m (group_of M j is d) h c.args.node c.args.room c.walk-groups-groups.new.sheet c.walk-groups-groups.result.walk.used c.walk-groups-groups.result.walk.over c.walk-groups-groups.result.wide (flattened 0 ds) (gathered (map_rows (listed is) d))) width was)
-          _ (λ w. refl) (λ w. apart c.walk-groups-groups.result.wide c.if-groups.true w);
+          let was = c.walk_groups-groups.ensures.after (flattened 0 ds) child d s fill.on_sheet fill.room_enough run (small_change h law child _ d (board news child) lower) (omega arith) (omega arith) room ready in
+          total_finished M L j is h law c.args.node child ws ds news low at room-is fits c.args.room c.walk_groups-groups.new.sheet c.walk_groups-groups.result.walk.used c.walk_groups-groups.result.walk.over c.walk_groups-groups.result.wide
+          (subst (λ (m : ℕ). Totalled M m (group_of M j is d) h c.args.node c.args.room c.walk_groups-groups.new.sheet c.walk_groups-groups.result.walk.used c.walk_groups-groups.result.walk.over c.walk_groups-groups.result.wide (flattened 0 ds) (gathered (map_rows (listed is) d))) width was)
+          _ (λ w. refl) (λ w. apart c.walk_groups-groups.result.wide c.if-groups.true w);
     }
 
 pub returns : goal.returns
@@ -74,8 +74,8 @@ returns g c =
           let room-is = subst (RoomForGroup M) width room in
           let ready = λ (k : Row) (key : IsGroup n k). subst (λ (m : ℕ). Ready M m (shelf_of h c.args.node) (group_of M j is d) k) (sym width)
           (ready_groups M L j is h law child _ d (board news child) lower (shelf_of h c.args.node) at.own room-is fits few k (subst (λ (m : ℕ). IsGroup m k) width key)) in
-          let was = c.walk-groups-groups.ensures.after (flattened 0 ds) child d s fill.on_sheet fill.room_enough run (small_change h law child _ d (board news child) lower) (omega arith) (omega arith) room ready in
-          total_finished M L j is h law c.args.node child ws ds news low at room-is fits c.args.room c.walk-groups-groups.new.sheet c.walk-groups-groups.result.walk.used c.walk-groups-groups.result.walk.over c.walk-groups-groups.result.wide
-          (subst (λ (m : ℕ). Totalled M m (group_of M j is d) h c.args.node c.args.room c.walk-groups-groups.new.sheet c.walk-groups-groups.result.walk.used c.walk-groups-groups.result.walk.over c.walk-groups-groups.result.wide (flattened 0 ds) (gathered (map_rows (listed is) d))) width was)
-          c.finish.result (λ w. apart c.walk-groups-groups.result.wide w c.if-groups.false) (λ w. c.finish.ensures);
+          let was = c.walk_groups-groups.ensures.after (flattened 0 ds) child d s fill.on_sheet fill.room_enough run (small_change h law child _ d (board news child) lower) (omega arith) (omega arith) room ready in
+          total_finished M L j is h law c.args.node child ws ds news low at room-is fits c.args.room c.walk_groups-groups.new.sheet c.walk_groups-groups.result.walk.used c.walk_groups-groups.result.walk.over c.walk_groups-groups.result.wide
+          (subst (λ (m : ℕ). Totalled M m (group_of M j is d) h c.args.node c.args.room c.walk_groups-groups.new.sheet c.walk_groups-groups.result.walk.used c.walk_groups-groups.result.walk.over c.walk_groups-groups.result.wide (flattened 0 ds) (gathered (map_rows (listed is) d))) width was)
+          c.finish.result (λ w. apart c.walk_groups-groups.result.wide w c.if-groups.false) (λ w. c.finish.ensures);
     }

@@ -34,10 +34,10 @@ loop-i-preserved g c =
     let h : i < length d = omega (arith, c.loop-i-test.true, c.len-i-end.ensures) in
     let line : c.line-line.result ≡ change_line k (get_or d i no_line) = c.line-line.ensures room used es [] k d no_line (subst (OnSheet room c.args.sheet.now used) (sym (append-nil es)) o) f r h in
     let kept = c.loop-i.auto.values in
-    values_more M g.met.M.Measure.lawful c.args.measured is d xs i no_line c.loop-i.values c.add-worth.new.values c.image-group.result c.line-worth-worth.result h
+    values_more M g.met.M.Measure.lawful c.args.measured is d xs i no_line c.loop-i.values c.add_worth.new.values c.image-group.result c.line_worth-worth.result h
     (c.image-group.ensures ∙ ap (λ (x : ChangeLine). listed is x.row) line)
-    (c.line-worth-worth.ensures ∙ ap (λ (x : ChangeLine). column_worth M c.args.measured x.row x.change) line)
-    was (c.add-worth.ensures.after xs n (omega arith))
+    (c.line_worth-worth.ensures ∙ ap (λ (x : ChangeLine). column_worth M c.args.measured x.row x.change) line)
+    was (c.add_worth.ensures.after xs n (omega arith))
 
 pub returns : goal.returns
 returns g c =

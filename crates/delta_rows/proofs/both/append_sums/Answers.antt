@@ -35,8 +35,8 @@ loop-turn-preserved g c = λ (es : List ChangeLine) (i j : ℕ) (dl dr : Lines) 
     let exact = sum_exact (count (shelf_of h i) q) (count (shelf_of h j) q) c.in-Some.turn.left c.in-Some.turn.right (l.old q) (r.old q) fits-l fits-r in
     let fl : SFits w32 c.in-Some.turn.left = search rules in
     let fr : SFits w32 c.in-Some.turn.right = search rules in
-    let fs : SFits w32 c.saturating-add-sum.result = search rules in
-    let sum = to_z-of_z w32 c.saturating-add-sum.result fs ∙ c.saturating-add-sum.ensures ∙ ap₂ (λ a b. saturate_to_bits 31 (a +ℤ b)) (to_z-of_z w32 c.in-Some.turn.left fl) (to_z-of_z w32 c.in-Some.turn.right fr) ∙ exact in
+    let fs : SFits w32 c.saturating_add-sum.result = search rules in
+    let sum = to_z-of_z w32 c.saturating_add-sum.result fs ∙ c.saturating_add-sum.ensures ∙ ap₂ (λ a b. saturate_to_bits 31 (a +ℤ b)) (to_z-of_z w32 c.in-Some.turn.left fl) (to_z-of_z w32 c.in-Some.turn.right fr) ∙ exact in
     merging_more sum_at sum_none dl dr h c.args.node c.args.room es c.loop-turn.sheet c.loop-turn.walk.used c.loop-turn.walk.over xs ys xs' ys' was q c.in-Some.turn.left c.in-Some.turn.right turned _ sum
     c.append-walk.new.sheet c.append-walk.result.used c.append-walk.result.over (c.append-walk.ensures.after es was.out s was.walked)
 
@@ -47,7 +47,7 @@ returns g c =
       after = λ (es : List ChangeLine) (i j : ℕ) (dl dr : Lines) (s : g.S.Stock.sound c.args.stock.now) (o : OnSheet c.args.room c.args.sheet.now c.args.used es) (f : length es ≤ c.args.room)
           (l : Side (g.S.Stock.meaning c.args.stock.now) es c.args.left i dl) (r : Side (g.S.Stock.meaning c.args.stock.now) es c.args.right j dr).
           let was = c.loop-turn.invariant es i j dl dr s o f l r in
-          let done = sides_done (g.S.Stock.meaning c.args.stock.now) es c.args.left c.args.right i j dl dr l r c.loop-turn.at.left c.loop-turn.at.right c.in-default.ensures.nearer in
+          let done = sides_done (g.S.Stock.meaning c.args.stock.now) es c.args.left c.args.right i j dl dr l r c.loop-turn.at.left c.loop-turn.at.right c.in_default.ensures.nearer in
           merging_all sum_at sum_none dl dr (g.S.Stock.meaning c.args.stock.now) c.args.node c.args.room es c.loop-turn.sheet c.loop-turn.walk.used c.loop-turn.walk.over
           (drop c.loop-turn.at.left dl) (drop c.loop-turn.at.right dr) was done.0 done.1 (both dl dr) (canonical_both dl dr) (count_both dl dr);
     }

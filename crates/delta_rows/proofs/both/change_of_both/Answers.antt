@@ -22,10 +22,10 @@ returns g c =
           let old = both (shelf_of h l) (shelf_of h r) in
           let lower-l = (at.lower l low-l).changes in
           let lower-r = (at.lower r low-r).changes in
-          let w = c.append-sums.ensures.after (flattened 0 ds) l r (board ds l) (board ds r) s fill.on_sheet fill.room_enough
+          let w = c.append_sums.ensures.after (flattened 0 ds) l r (board ds l) (board ds r) s fill.on_sheet fill.room_enough
           (side_of h law ws c.args.node old ds news at c.args.left l low-l run-l) (side_of h law ws c.args.node old ds news at c.args.right r low-r run-r) in
           finished h law c.args.node ws old ds news at (both (board news l) (board news r))
           (operators_give_bags.of_both (board news l) (board news r) lower-l.new_bag lower-r.new_bag)
           (both (board ds l) (board ds r)) (both_follows_change (shelf_of h l) (board ds l) (board news l) (shelf_of h r) (board ds r) (board news r) lower-l lower-r)
-          true c.append-sums.result.over w.told c.args.room c.append-sums.new.sheet c.append-sums.result.used (λ x y. w.on_sheet) c.finish.result c.finish.ensures;
+          true c.append_sums.result.over w.told c.args.room c.append_sums.new.sheet c.append_sums.result.used (λ x y. w.on_sheet) c.finish.result c.finish.ensures;
     }

@@ -19,9 +19,9 @@ returns g c =
           let law = g.S.Stock.lawful c.args.stock.now s in
           let q = c.args.condition.now in
           let lower = (at.lower child low).changes in
-          let w = c.append-passing.ensures.after (flattened 0 ds) child (board ds child) s fill.on_sheet fill.room_enough run lower.in_order in
+          let w = c.append_passing.ensures.after (flattened 0 ds) child (board ds child) s fill.on_sheet fill.room_enough run lower.in_order in
           finished h law c.args.node ws (kept_by q (shelf_of h child)) ds news at (kept_by q (board news child))
           (operators_give_bags.of_keep q.column q.relation q.operand (board news child) lower.new_bag)
           (kept_by q (board ds child)) (keep_follows_change q.column q.relation q.operand (shelf_of h child) (board ds child) (board news child) lower)
-          true c.append-passing.result.over w.told c.args.room c.append-passing.new.sheet c.append-passing.result.used (λ x y. w.on_sheet) c.finish.result c.finish.ensures;
+          true c.append_passing.result.over w.told c.args.room c.append_passing.new.sheet c.append_passing.result.used (λ x y. w.on_sheet) c.finish.result c.finish.ensures;
     }

@@ -33,8 +33,8 @@ loop-turn-preserved g c = λ (es : List ChangeLine) (dl dr : Lines) (s : g.S.Sto
     let part = was.partly in
     let fits-l = turn_fits h es c.args.left c.args.l dl xs xs' q c.in-Some.turn.left l part.left_order part.left_of turned.left in
     let fits-r = turn_fits h es c.args.right c.args.r dr ys ys' q c.in-Some.turn.right r part.right_order part.right_of turned.right in
-    let fits : SFits w32 c.change-of-row-change.result = search rules in
-    let change = to_z-of_z w32 c.change-of-row-change.result fits ∙ c.change-of-row-change.ensures s fits-l fits-r in
+    let fits : SFits w32 c.change_of_row-change.result = search rules in
+    let change = to_z-of_z w32 c.change_of_row-change.result fits ∙ c.change_of_row-change.ensures s fits-l fits-r in
     merging_more (less_at (shelf_of (g.S.Stock.meaning c.args.stock.now) c.args.l) (shelf_of (g.S.Stock.meaning c.args.stock.now) c.args.r)) (less_none (shelf_of (g.S.Stock.meaning c.args.stock.now) c.args.l) (shelf_of (g.S.Stock.meaning c.args.stock.now) c.args.r)) dl dr h c.args.node c.args.room es c.loop-turn.sheet c.loop-turn.walk.used c.loop-turn.walk.over xs ys xs' ys' was q c.in-Some.turn.left c.in-Some.turn.right turned _ change
     c.append-walk.new.sheet c.append-walk.result.used c.append-walk.result.over (c.append-walk.ensures.after es was.out s was.walked)
 
@@ -48,7 +48,7 @@ returns g c =
           let was = c.loop-turn.invariant es dl dr s o f l r in
           let old-l = shelf_of (g.S.Stock.meaning c.args.stock.now) c.args.l in
           let old-r = shelf_of (g.S.Stock.meaning c.args.stock.now) c.args.r in
-          let done = sides_done (g.S.Stock.meaning c.args.stock.now) es c.args.left c.args.right c.args.l c.args.r dl dr l r c.loop-turn.at.left c.loop-turn.at.right c.in-default.ensures.nearer in
+          let done = sides_done (g.S.Stock.meaning c.args.stock.now) es c.args.left c.args.right c.args.l c.args.r dl dr l r c.loop-turn.at.left c.loop-turn.at.right c.in_default.ensures.nearer in
           merging_all (less_at (shelf_of (g.S.Stock.meaning c.args.stock.now) c.args.l) (shelf_of (g.S.Stock.meaning c.args.stock.now) c.args.r)) (less_none (shelf_of (g.S.Stock.meaning c.args.stock.now) c.args.l) (shelf_of (g.S.Stock.meaning c.args.stock.now) c.args.r)) dl dr (g.S.Stock.meaning c.args.stock.now) c.args.node c.args.room es c.loop-turn.sheet c.loop-turn.walk.used c.loop-turn.walk.over
           (drop c.loop-turn.at.left dl) (drop c.loop-turn.at.right dr) was done.0 done.1 (change_of_less old-l dl old-r dr) (canonical_change_of_less old-l dl old-r dr) (less_counts old-l dl nl old-r dr nr cl cr);
     }

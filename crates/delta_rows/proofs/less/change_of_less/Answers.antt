@@ -25,10 +25,10 @@ returns g c =
           let old = monus (shelf_of h l) (shelf_of h r) in
           let lower-l = (at.lower l low-l).changes in
           let lower-r = (at.lower r low-r).changes in
-          let w = c.append-changes.ensures.after (flattened 0 ds) (board ds l) (board ds r) (board news l) (board news r) s fill.on_sheet fill.room_enough
+          let w = c.append_changes.ensures.after (flattened 0 ds) (board ds l) (board ds r) (board news l) (board news r) s fill.on_sheet fill.room_enough
           (side_of h law ws c.args.node old ds news at c.args.left l low-l run-l) (side_of h law ws c.args.node old ds news at c.args.right r low-r run-r) lower-l lower-r in
           finished h law c.args.node ws old ds news at (monus (board news l) (board news r))
           (operators_give_bags.of_less (board news l) (board news r) lower-l.new_bag lower-r.new_bag)
           (change_of_less (shelf_of h l) (board ds l) (shelf_of h r) (board ds r)) (less_follows_change (shelf_of h l) (board ds l) (board news l) (shelf_of h r) (board ds r) (board news r) lower-l lower-r)
-          true c.append-changes.result.over w.told c.args.room c.append-changes.new.sheet c.append-changes.result.used (λ x y. w.on_sheet) c.finish.result c.finish.ensures;
+          true c.append_changes.result.over w.told c.args.room c.append_changes.new.sheet c.append_changes.result.used (λ x y. w.on_sheet) c.finish.result c.finish.ensures;
     }

@@ -18,7 +18,7 @@ returns g c = λ (s : g.S.Stock.sound c.args.stock.now) (new-l : IsCount (count 
     let fits-l : SFits w32 c.args.turn.now.left = search rules in
     let fits-r : SFits w32 c.args.turn.now.right = search rules in
     let after-l = after_is c.count-left.result c.count_after.result (count (shelf_of h c.args.l) q) m fits-l old-l c.count_after.ensures new-l in
-    let after-r = after_is c.count-right.result c.count-after-2.result (count (shelf_of h c.args.r) q) n fits-r old-r c.count-after-2.ensures new-r in
-    counts_apart c.saturating-sub-new.result c.saturating-sub-old.result c.saturating-sub-new.type-inv c.saturating-sub-old.type-inv
-    ∙ ap₂ (λ (a b : ℕ). pos a -ℤ pos b) c.saturating-sub-new.ensures c.saturating-sub-old.ensures
-    ∙ surplus_change (count (shelf_of h c.args.l) q) (count (shelf_of h c.args.r) q) m n c.count-left.result c.count-right.result c.count_after.result c.count-after-2.result old-l old-r after-l after-r
+    let after-r = after_is c.count-right.result c.count_after-2.result (count (shelf_of h c.args.r) q) n fits-r old-r c.count_after-2.ensures new-r in
+    counts_apart c.saturating_sub-new.result c.saturating_sub-old.result c.saturating_sub-new.type_inv c.saturating_sub-old.type_inv
+    ∙ ap₂ (λ (a b : ℕ). pos a -ℤ pos b) c.saturating_sub-new.ensures c.saturating_sub-old.ensures
+    ∙ surplus_change (count (shelf_of h c.args.l) q) (count (shelf_of h c.args.r) q) m n c.count-left.result c.count-right.result c.count_after.result c.count_after-2.result old-l old-r after-l after-r

@@ -11,7 +11,7 @@ use Rattle.delta_rows.proofs.merge.next_turn.Goals as goal
 
 pub returns-in-Less : goal.returns-in-Less
 returns-in-Less c =
-    let side = side_less c.args.at.left c.len.result c.args.at.right c.len-2.result (row_order c.line-l.result.row c.line-r.result.row) (sym c.next_side.ensures ∙ c.in-ok-side.was ∙ ap Some c.in-Less.is) in
+    let side = side_less c.args.at.left c.len.result c.args.at.right c.len-2.result (row_order c.line-l.result.row c.line-r.result.row) (sym c.next_side.ensures ∙ c.in_ok-side.was ∙ ap Some c.in-Less.is) in
     record {
       nearer = let s = side.0 in omega (arith, c.len.ensures, c.len-2.ensures);
       turned = λ (room used : ℕ) (es more : List ChangeLine) (i j : ℕ) (dl dr : Lines) (o : OnSheet room c.args.sheet.now used (es ++ more)) (f : length es ≤ room) (rl : RunOf es c.args.left.now.from c.args.left.now.to i dl) (rr : RunOf es c.args.right.now.from c.args.right.now.to j dr).
@@ -29,7 +29,7 @@ returns-in-Less c =
 
 pub returns-in-Equal : goal.returns-in-Equal
 returns-in-Equal c =
-    let side = side_equal c.args.at.left c.len.result c.args.at.right c.len-2.result (row_order c.line-l.result.row c.line-r.result.row) (sym c.next_side.ensures ∙ c.in-ok-side.was ∙ ap Some c.in-Equal.is) in
+    let side = side_equal c.args.at.left c.len.result c.args.at.right c.len-2.result (row_order c.line-l.result.row c.line-r.result.row) (sym c.next_side.ensures ∙ c.in_ok-side.was ∙ ap Some c.in-Equal.is) in
     record {
       nearer = let s = side.0 in let t = side.1 in omega (arith, c.len.ensures, c.len-2.ensures);
       turned = λ (room used : ℕ) (es more : List ChangeLine) (i j : ℕ) (dl dr : Lines) (o : OnSheet room c.args.sheet.now used (es ++ more)) (f : length es ≤ room) (rl : RunOf es c.args.left.now.from c.args.left.now.to i dl) (rr : RunOf es c.args.right.now.from c.args.right.now.to j dr).
@@ -49,7 +49,7 @@ returns-in-Equal c =
 
 pub returns-in-Greater : goal.returns-in-Greater
 returns-in-Greater c =
-    let side = side_greater c.args.at.left c.len.result c.args.at.right c.len-2.result (row_order c.line-l.result.row c.line-r.result.row) (sym c.next_side.ensures ∙ c.in-ok-side.was ∙ ap Some c.in-Greater.is) in
+    let side = side_greater c.args.at.left c.len.result c.args.at.right c.len-2.result (row_order c.line-l.result.row c.line-r.result.row) (sym c.next_side.ensures ∙ c.in_ok-side.was ∙ ap Some c.in-Greater.is) in
     record {
       nearer = let s = side.0 in omega (arith, c.len.ensures, c.len-2.ensures);
       turned = λ (room used : ℕ) (es more : List ChangeLine) (i j : ℕ) (dl dr : Lines) (o : OnSheet room c.args.sheet.now used (es ++ more)) (f : length es ≤ room) (rl : RunOf es c.args.left.now.from c.args.left.now.to i dl) (rr : RunOf es c.args.right.now.from c.args.right.now.to j dr).

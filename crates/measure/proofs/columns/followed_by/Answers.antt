@@ -5,8 +5,8 @@ use Rattle.measure.proofs.columns.followed_by.Goals as goal
 
 pub loop-i-preserved : goal.loop-i-preserved
 loop-i-preserved c =
-    filled_step (followed c.args.width c.args.front.now c.args.behind.now) c.loop-i.row c.loop-i.i c.column-followed.result (record { sfits = c.column-followed.type-inv }) c.loop-i-test.true c.loop-i.invariant
-    c.column-followed.ensures
+    filled_step (followed c.args.width c.args.front.now c.args.behind.now) c.loop-i.row c.loop-i.i c.column_followed.result (record { sfits = c.column_followed.type_inv }) c.loop-i-test.true c.loop-i.invariant
+    c.column_followed.ensures
 
 pub returns : goal.returns
 returns c = filled_all (take c.args.width c.args.front.now ++ c.args.behind.now) c.loop-i.row c.loop-i.i c.loop-i-test.false c.loop-i.invariant

@@ -4,10 +4,10 @@ use Rattle.measure.specs.RoundTrip.{shown_again}
 use Rattle.measure.proofs.RoundTripHolds.{round_trip, same_again, again_none, again_some}
 use Rattle.measure.proofs.round_trip.read_again.Goals as goal
 
-pub returns-in-err-row : goal.returns-in-err-row
-returns-in-err-row g c =
-    let e : shown g.M.Measure.model c.args.value ≡ None = ap (shown g.M.Measure.model) (sym c.held.ensures.same) ∙ sym c.show.ensures ∙ c.in-err-row.was in
-    let a : c.from-residual.result ≡ shown_again g.M.Measure.model c.args.value = c.from-residual.ensures ∙ again_none g.M.Measure.model c.args.value e in
+pub returns-in_err-row : goal.returns-in_err-row
+returns-in_err-row g c =
+    let e : shown g.M.Measure.model c.args.value ≡ None = ap (shown g.M.Measure.model) (sym c.held.ensures.same) ∙ sym c.show.ensures ∙ c.in_err-row.was in
+    let a : c.from_residual.result ≡ shown_again g.M.Measure.model c.args.value = c.from_residual.ensures ∙ again_none g.M.Measure.model c.args.value e in
     record {
       answer = a;
       same = λ few. a ∙ same_again g.M.Measure.model g.met.M.Measure.lawful few c.args.value c.held.ensures.held;
@@ -16,8 +16,8 @@ returns-in-err-row g c =
 
 pub returns : goal.returns
 returns g c =
-    let e : shown g.M.Measure.model c.args.value ≡ Some c.in-ok-row.row = ap (shown g.M.Measure.model) (sym c.held.ensures.same) ∙ sym c.show.ensures ∙ c.in-ok-row.was in
-    let a : Some c.read-back.result ≡ shown_again g.M.Measure.model c.args.value = ap Some c.read-back.ensures ∙ again_some g.M.Measure.model c.args.value c.in-ok-row.row e in
+    let e : shown g.M.Measure.model c.args.value ≡ Some c.in_ok-row.row = ap (shown g.M.Measure.model) (sym c.held.ensures.same) ∙ sym c.show.ensures ∙ c.in_ok-row.was in
+    let a : Some c.read_back.result ≡ shown_again g.M.Measure.model c.args.value = ap Some c.read_back.ensures ∙ again_some g.M.Measure.model c.args.value c.in_ok-row.row e in
     record {
       answer = a;
       same = λ few. a ∙ same_again g.M.Measure.model g.met.M.Measure.lawful few c.args.value c.held.ensures.held;

@@ -8,5 +8,5 @@ pub returns : goal.returns
 returns c =
     let b = c.args.bytes.now in
     let l : 4 ≤ length b = search rules in
-    let f : SFits w32 c.from-be-bytes.result = search rules in
-    rw (c.if-not-stands.false, take_rest b 4, to_z-of_z w32 c.from-be-bytes.result f, c.from-be-bytes.ensures) (first_four_is b l)
+    let f : SFits w32 c.from_be_bytes.result = search rules in
+    rw (c.if-not-stands.false, take_rest b 4, to_z-of_z w32 c.from_be_bytes.result f, c.from_be_bytes.ensures) (first_four_is b l)

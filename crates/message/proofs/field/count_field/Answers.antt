@@ -7,4 +7,4 @@ pub returns : goal.returns
 returns c =
     let b = c.args.bytes.now in
     let l : 2 ≤ length b = search rules in
-    rw (c.if-not-stands.false, take_rest b 2) (rw c.from-be-bytes.ensures (first_two_is b l))
+    rw (c.if-not-stands.false, take_rest b 2) (rw c.from_be_bytes.ensures (first_two_is b l))

@@ -17,10 +17,10 @@ loop-k-preserved c =
     elim c.if-row-k-ne0.branch [
       | then-row-k-ne0 w ↦
           let n = column_length v false (nonzero_by_bits v f w.if-row-k-ne0.true) in
-          (omega (arith, w.length_is), omega (arith, w.length_is))
+          (omega (arith, w.length-is), omega (arith, w.length-is))
       | else-row-k-ne0 w ↦
           let n = column_length v true (zero_by_bits v f w.if-row-k-ne0.false) in
-          (omega (arith, w.length_is), omega (arith, w.length_is))
+          (omega (arith, w.length-is), omega (arith, w.length-is))
     ]
 
 pub returns : goal.returns

@@ -15,4 +15,4 @@ returns c =
     elim c.if-record-eq0.branch [ then-record-eq0 w ↦ rw (eq-eqb r.node 0 w.if-record-eq0.true) w.node-is | else-record-eq0 w ↦ rw (ne_eqb r.node 0 w.if-record-eq0.false) w.node-is ] in
     let take : c.if-record.take ≡ 1024 * bit_value r.take =
     elim c.if-record.branch [ then-record w ↦ rw w.if-record.true w.take-is | else-record w ↦ rw w.if-record.false w.take-is ] in
-    map_of_sum r c.columns-map-columns.result c.if-record-eq1.count c.if-record-eq0.node c.if-record.take eight c.columns-map-columns.ensures.is count node take
+    map_of_sum r c.columns_map-columns.result c.if-record-eq1.count c.if-record-eq0.node c.if-record.take eight c.columns_map-columns.ensures.is count node take

@@ -11,8 +11,8 @@ use Rattle.message.proofs.put.put_columns.Goals as goal
 pub loop-k-init : goal.loop-k-init
 loop-k-init c = (omega arith, sym (laid_nothing c.args.buffer.now c.args.at ∙ take-append-drop c.args.at c.args.buffer.now))
 
-pub put-column-place-requires : goal.put-column-place-requires
-put-column-place-requires c =
+pub put_column-place-requires : goal.put_column-place-requires
+put_column-place-requires c =
     let row = c.args.row.now in
     let k = c.loop-k.k in
     let v = get_or row k (pos 0) in
@@ -33,8 +33,8 @@ loop-k-preserved c =
     let f : SFits w32 v = search rules in
     let lt : k < length row = omega arith in
     let room : at + length xs ≤ length b = omega (arith, joined_room column_bytes row k (pos 0) lt) in
-    let e : c.put-column-place.result ≡ c.loop-k.place + length (column_bytes v) = rw (to_z-of_z w32 v f) at c.put-column-place.ensures.end in
-    let a : c.put-column-place.new.buffer ≡ laid c.loop-k.buffer c.loop-k.place (column_bytes v) = rw (to_z-of_z w32 v f) at c.put-column-place.ensures.after in
+    let e : c.put_column-place.result ≡ c.loop-k.place + length (column_bytes v) = rw (to_z-of_z w32 v f) at c.put_column-place.ensures.end in
+    let a : c.put_column-place.new.buffer ≡ laid c.loop-k.buffer c.loop-k.place (column_bytes v) = rw (to_z-of_z w32 v f) at c.put_column-place.ensures.after in
     let n = length_joined_step column_bytes row k (pos 0) lt in
     let j = joined_step column_bytes row k (pos 0) lt in
     (omega arith, a ∙ (simp (c.loop-k.invariant.0, c.loop-k.invariant.1) (laid_more b at xs room (column_bytes v)) ∙ ap (laid b at) (sym j)))

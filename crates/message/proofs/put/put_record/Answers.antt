@@ -8,17 +8,17 @@ use Rattle.message.proofs.Laid.{laid_then}
 use Rattle.message.proofs.Encoded.{length_encode}
 use Rattle.message.proofs.put.put_record.Goals as goal
 
-pub put-bytes-columns-requires : goal.put-bytes-columns-requires
-put-bytes-columns-requires c = omega (arith, length_encode c.args.record.now, ap length c.to-be-bytes.ensures)
+pub put_bytes-columns-requires : goal.put_bytes-columns-requires
+put_bytes-columns-requires c = omega (arith, length_encode c.args.record.now, ap length c.to_be_bytes.ensures)
 
-pub put-columns-count-requires : goal.put-columns-count-requires
-put-columns-count-requires c = omega (arith, length_encode c.args.record.now, ap length c.to-be-bytes.ensures)
+pub put_columns-count-requires : goal.put_columns-count-requires
+put_columns-count-requires c = omega (arith, length_encode c.args.record.now, ap length c.to_be_bytes.ensures)
 
-pub put-count-node-requires : goal.put-count-node-requires
-put-count-node-requires c = omega (arith, length_encode c.args.record.now, ap length c.to-be-bytes.ensures)
+pub put_count-node-requires : goal.put_count-node-requires
+put_count-node-requires c = omega (arith, length_encode c.args.record.now, ap length c.to_be_bytes.ensures)
 
-pub put-node-requires : goal.put-node-requires
-put-node-requires c = omega (arith, length_encode c.args.record.now, ap length c.to-be-bytes.ensures)
+pub put_node-requires : goal.put_node-requires
+put_node-requires c = omega (arith, length_encode c.args.record.now, ap length c.to_be_bytes.ensures)
 
 pub returns : goal.returns
 unfolding encode
@@ -31,11 +31,11 @@ returns c =
     let ys = flat_map column_bytes r.row in
     let zs = count_bytes r.count in
     let ws = node_bytes r.node in
-    let m : c.to-be-bytes.result ≡ xs = c.to-be-bytes.ensures ∙ ap in_two c.map-for-map.ensures in
-    let e1 : c.put-bytes-columns.new.buffer ≡ laid b at xs = c.put-bytes-columns.ensures.after ∙ ap (laid b at) m in
-    let f1 : c.put-bytes-columns.result ≡ at + length xs = c.put-bytes-columns.ensures.end ∙ ap (λ l. at + length l) m in
-    let s2 = laid_then b c.put-bytes-columns.new.buffer c.put-columns-count.new.buffer xs ys at c.put-bytes-columns.result c.put-columns-count.result (omega arith) e1 f1 c.put-columns-count.ensures.after c.put-columns-count.ensures.end in
-    let s3 = laid_then b c.put-columns-count.new.buffer c.put-count-node.new.buffer (xs ++ ys) zs at c.put-columns-count.result c.put-count-node.result (omega (arith, length-append xs ys)) s2.0 s2.1 c.put-count-node.ensures.after c.put-count-node.ensures.end in
-    let s4 = laid_then b c.put-count-node.new.buffer c.put_node.new.buffer ((xs ++ ys) ++ zs) ws at c.put-count-node.result c.put_node.result (omega (arith, length-append xs ys, length-append (xs ++ ys) zs)) s3.0 s3.1 c.put_node.ensures.after c.put_node.ensures.end in
+    let m : c.to_be_bytes.result ≡ xs = c.to_be_bytes.ensures ∙ ap in_two c.map_for-map.ensures in
+    let e1 : c.put_bytes-columns.new.buffer ≡ laid b at xs = c.put_bytes-columns.ensures.after ∙ ap (laid b at) m in
+    let f1 : c.put_bytes-columns.result ≡ at + length xs = c.put_bytes-columns.ensures.end ∙ ap (λ l. at + length l) m in
+    let s2 = laid_then b c.put_bytes-columns.new.buffer c.put_columns-count.new.buffer xs ys at c.put_bytes-columns.result c.put_columns-count.result (omega arith) e1 f1 c.put_columns-count.ensures.after c.put_columns-count.ensures.end in
+    let s3 = laid_then b c.put_columns-count.new.buffer c.put_count-node.new.buffer (xs ++ ys) zs at c.put_columns-count.result c.put_count-node.result (omega (arith, length-append xs ys)) s2.0 s2.1 c.put_count-node.ensures.after c.put_count-node.ensures.end in
+    let s4 = laid_then b c.put_count-node.new.buffer c.put_node.new.buffer ((xs ++ ys) ++ zs) ws at c.put_count-node.result c.put_node.result (omega (arith, length-append xs ys, length-append (xs ++ ys) zs)) s3.0 s3.1 c.put_node.ensures.after c.put_node.ensures.end in
     let a : ((xs ++ ys) ++ zs) ++ ws ≡ xs ++ (ys ++ (zs ++ ws)) = simp append_assoc in
     record { end = s4.1 ∙ ap (λ l. at + length l) a; after = s4.0 ∙ ap (laid b at) a }

@@ -10,8 +10,8 @@ use Rattle.message.proofs.writer.put_records.Goals as goal
 pub loop-i-init : goal.loop-i-init
 loop-i-init c = (refl, sym (laid_first c.args.buffer.now _))
 
-pub put-record-at-requires : goal.put-record-at-requires
-put-record-at-requires c = omega (arith, joined_room encode c.args.records.now c.loop-i.i none c.loop-i-test.true)
+pub put_record-at-requires : goal.put_record-at-requires
+put_record-at-requires c = omega (arith, joined_room encode c.args.records.now c.loop-i.i none c.loop-i-test.true)
 
 pub loop-i-preserved : goal.loop-i-preserved
 loop-i-preserved c =
@@ -20,7 +20,7 @@ loop-i-preserved c =
     let b = c.args.buffer.now in
     let xs = encode_all (take i rs) in
     let room : 0 + length xs ≤ length b = omega (arith, joined_room encode rs i none c.loop-i-test.true) in
-    let s = laid_then b c.loop-i.buffer c.put-record-at.new.buffer xs (encode (get_or rs i none)) 0 c.loop-i.at c.put-record-at.result room c.loop-i.invariant.1 c.loop-i.invariant.0 c.put-record-at.ensures.after c.put-record-at.ensures.end in
+    let s = laid_then b c.loop-i.buffer c.put_record-at.new.buffer xs (encode (get_or rs i none)) 0 c.loop-i.at c.put_record-at.result room c.loop-i.invariant.1 c.loop-i.invariant.0 c.put_record-at.ensures.after c.put_record-at.ensures.end in
     let j = joined_step encode rs i none c.loop-i-test.true in
     (s.1 ∙ ap (λ l. 0 + length l) (sym j), s.0 ∙ ap (laid b 0) (sym j))
 

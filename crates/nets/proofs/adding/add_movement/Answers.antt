@@ -7,8 +7,8 @@ pub returns-then-line-eq0 : goal.returns-then-line-eq0
 returns-then-line-eq0 c =
     let s = c.args.nets.now in
     let m = c.args.movement.now in
-    let e = c.line-with-line.result in
-    let made = c.line-with-line.ensures in
+    let e = c.line_with-line.result in
+    let made = c.line_with-line.ensures in
     let removed = c.remove.ensures in
     let f : SFits w32 e.change = search rules in
     record {
@@ -22,8 +22,8 @@ pub returns-else-line-eq0 : goal.returns-else-line-eq0
 returns-else-line-eq0 c =
     let s = c.args.nets.now in
     let m = c.args.movement.now in
-    let e = c.line-with-line.result in
-    let made = c.line-with-line.ensures in
+    let e = c.line_with-line.result in
+    let made = c.line_with-line.ensures in
     let stored = c.add.ensures in
     record {
       same = stored.same;

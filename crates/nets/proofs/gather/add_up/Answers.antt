@@ -36,8 +36,8 @@ loop-movement-init c =
     let seen = c.new-reader.ensures.seen in
     (unchanged s, λ h. h, c.new-reader.ensures.bytes, sym at, subst (λ n. Reached nodes m s s c.new-reader.result.at n) (sym seen) (subst (λ n. Reached nodes m s s n 0) (sym at) (reached_first nodes m s)))
 
-pub returns-in-err-movement : goal.returns-in-err-movement
-returns-in-err-movement c =
+pub returns-in_err-movement : goal.returns-in_err-movement
+returns-in_err-movement c =
     let s = c.args.nets.now in
     let t = c.loop-movement.nets in
     let nodes = nodes_of c.args.plan.now in
@@ -45,10 +45,10 @@ returns-in-err-movement c =
     let at = c.loop-movement.reader.at in
     let seen = c.loop-movement.reader.seen in
     let i = c.loop-movement.invariant in
-    let e = read_refusal c.in-err-movement.field-0.0 in
+    let e = read_refusal c.in_err-movement.field-0.0 in
     let few : c.args.plan.now.len ≤ 16 = search rules in
-    let p = err_from_is_err_and c.from-residual.result c.from-residual.ensures.1 in
-    let o = read-fault m c.loop-movement.reader.bytes.now i.2 at seen c.next.new.self.at c.next.new.self.seen e c.in-err-movement.ensures.step in
+    let p = err_from_is_err_and c.from_residual.result c.from_residual.ensures.1 in
+    let o = read-fault m c.loop-movement.reader.bytes.now i.2 at seen c.next.new.self.at c.next.new.self.seen e c.in_err-movement.ensures.step in
     let d = reached_refused nodes m s t at seen i.4 i.0 e o in
     record {
       same = i.0;
@@ -57,8 +57,8 @@ returns-in-err-movement c =
       added = reached_nets nodes m s t at seen i.4 i.0 (Err (of_message e)) d (few-nodes c.args.plan.now few);
     }
 
-pub returns-then-not-is-of-base : goal.returns-then-not-is-of-base
-returns-then-not-is-of-base c =
+pub returns-then-not-is_of_base : goal.returns-then-not-is_of_base
+returns-then-not-is_of_base c =
     let s = c.args.nets.now in
     let t = c.loop-movement.nets in
     let nodes = nodes_of c.args.plan.now in
@@ -70,8 +70,8 @@ returns-then-not-is-of-base c =
     let to = c.next.new.self.at in
     let then = c.next.new.self.seen in
     let few : c.args.plan.now.len ≤ 16 = search rules in
-    let v = read_one m c.loop-movement.reader.bytes.now i.2 at seen to then c.in-ok-movement.field-0 r c.in-Some.is c.in-ok-movement.ensures.step in
-    let d = reached_misfit nodes m s t at seen i.4 i.0 r to then v c.if-not-is-of-base.ensures in
+    let v = read_one m c.loop-movement.reader.bytes.now i.2 at seen to then c.in_ok-movement.field-0 r c.in-Some.is c.in_ok-movement.ensures.step in
+    let d = reached_misfit nodes m s t at seen i.4 i.0 r to then v c.if-not-is_of_base.ensures in
     record {
       same = i.0;
       sound = i.1;
@@ -80,7 +80,7 @@ returns-then-not-is-of-base c =
     }
 
 was_read : (c : goal.After-place-place) → Read c.args.message.now c.loop-movement.reader.at c.loop-movement.reader.seen c.next.new.self.at c.next.new.self.seen c.in-Some.movement
-was_read c = read_one c.args.message.now c.loop-movement.reader.bytes.now c.loop-movement.invariant.2 c.loop-movement.reader.at c.loop-movement.reader.seen c.next.new.self.at c.next.new.self.seen c.in-ok-movement.field-0 c.in-Some.movement c.in-Some.is c.in-ok-movement.ensures.step
+was_read c = read_one c.args.message.now c.loop-movement.reader.bytes.now c.loop-movement.invariant.2 c.loop-movement.reader.at c.loop-movement.reader.seen c.next.new.self.at c.next.new.self.seen c.in_ok-movement.field-0 c.in-Some.movement c.in-Some.is c.in_ok-movement.ensures.step
 
 pub loop-movement-smaller : goal.loop-movement-smaller
 loop-movement-smaller c = let v = was_read c in omega (arith, v.forward, v.inside)
@@ -89,18 +89,18 @@ pub loop-movement-preserved : goal.loop-movement-preserved
 loop-movement-preserved c =
     let s = c.args.nets.now in
     let t = c.loop-movement.nets in
-    let u = c.add-movement.new.nets in
+    let u = c.add_movement.new.nets in
     let nodes = nodes_of c.args.plan.now in
     let m = c.args.message.now in
     let i = c.loop-movement.invariant in
     let r = c.in-Some.movement in
-    let add = c.add-movement.ensures in
+    let add = c.add_movement.ensures in
     let counted : Counted r = search rules in (
       record { lender = add.same.lender ∙ i.0.lender; long = add.same.long ∙ i.0.long },
       λ h. add.sound (i.1 h),
       c.next.ensures.same ∙ i.2,
       c.place-place.ensures,
-      reached_more nodes m s t c.loop-movement.reader.at c.loop-movement.reader.seen i.4 i.0 r c.next.new.self.at c.next.new.self.seen u (was_read c) (sym c.if-not-is-of-base.ensures) counted add.added,
+      reached_more nodes m s t c.loop-movement.reader.at c.loop-movement.reader.seen i.4 i.0 r c.next.new.self.at c.next.new.self.seen u (was_read c) (sym c.if-not-is_of_base.ensures) counted add.added,
     )
 
 pub returns : goal.returns
@@ -113,7 +113,7 @@ returns c =
     let seen = c.loop-movement.reader.seen in
     let i = c.loop-movement.invariant in
     let few : c.args.plan.now.len ≤ 16 = search rules in
-    let o = read_none m c.loop-movement.reader.bytes.now i.2 at seen c.next.new.self.at c.next.new.self.seen c.in-ok-movement.field-0 c.in-default.is c.in-ok-movement.ensures.step in
+    let o = read_none m c.loop-movement.reader.bytes.now i.2 at seen c.next.new.self.at c.next.new.self.seen c.in_ok-movement.field-0 c.in_default.is c.in_ok-movement.ensures.step in
     let d = reached_end nodes m s t at seen i.4 i.0 o in
     record {
       same = i.0;

@@ -8,13 +8,13 @@ use Rattle.nets.proofs.short.short.Goals as goal
 abbrev none : ChangeLine
 none = record { node = 0; row = []; change = pos 0 }
 
-pub returns-then-takes-too-much : goal.returns-then-takes-too-much
-returns-then-takes-too-much g c =
+pub returns-then-takes_too_much : goal.returns-then-takes_too_much
+returns-then-takes_too_much g c =
     let ls = c.args.nets.now in
     let i = c.loop-net.net-index in
     let s = c.args.stock.now in
     let h = g.S.Stock.meaning s in
-    let first = λ (sound : g.S.Stock.sound s). first_short_found h ls i none (omega arith) c.takes_too_much.result (c.takes_too_much.ensures sound) c.if-takes-too-much.true ∙ c.loop-net.invariant sound in
+    let first = λ (sound : g.S.Stock.sound s). first_short_found h ls i none (omega arith) c.takes_too_much.result (c.takes_too_much.ensures sound) c.if-takes_too_much.true ∙ c.loop-net.invariant sound in
     let found = λ (m : List Record) (e : ls ≡ nets_of m) (sound : g.S.Stock.sound s). found_short h (g.S.Stock.lawful s sound) ls (Some (get_or ls i none).node) (first sound) m e in
     record {
       answer = λ (m : List Record) (e : ls ≡ nets_of m) (sound : g.S.Stock.sound s). (found m e sound).0;
@@ -27,7 +27,7 @@ loop-net-preserved g c =
     let i = c.loop-net.net-index in
     let s = c.args.stock.now in
     let h = g.S.Stock.meaning s in
-    λ (sound : g.S.Stock.sound s). first_short_passed h ls i none (omega arith) c.takes_too_much.result (c.takes_too_much.ensures sound) c.if-takes-too-much.false ∙ c.loop-net.invariant sound
+    λ (sound : g.S.Stock.sound s). first_short_passed h ls i none (omega arith) c.takes_too_much.result (c.takes_too_much.ensures sound) c.if-takes_too_much.false ∙ c.loop-net.invariant sound
 
 pub returns : goal.returns
 returns g c =

@@ -10,12 +10,12 @@ use Rattle.pending_book.proofs.settling.take_all.Goals as goal
 pub loop-place-init : goal.loop-place-init
 loop-place-init g c = (refl, (λ o. o), λ o t. moved_none (g.S.Stock.meaning c.args.below.now))
 
-pub loop-place-preserved-in-default : goal.loop-place-preserved-in-default
-loop-place-preserved-in-default g c =
+pub loop-place-preserved-in_default : goal.loop-place-preserved-in_default
+loop-place-preserved-in_default g c =
     let ps = held c.args.pending.now in
     let n = c.len-place-end.ensures.answer in
     let l : c.loop-place.place < length ps = omega (arith, n) in
-    absurd (c.in-default.not-Some (get_or ps c.loop-place.place blank_line) (c.get.ensures.answer ∙ slice_get-get_or ps c.loop-place.place blank_line l))
+    absurd (c.in_default.not-Some (get_or ps c.loop-place.place blank_line) (c.get.ensures.answer ∙ slice_get-get_or ps c.loop-place.place blank_line l))
 
 pub loop-place-preserved : goal.loop-place-preserved
 loop-place-preserved g c =
@@ -27,11 +27,11 @@ loop-place-preserved g c =
     let p = c.in-Some.line in
     let inv = c.loop-place.invariant in
     let r = read_at ps i p c.in-Some.ensures.answer in (
-      c.take-line.ensures.memory ∙ inv.0,
-      (λ o. c.take-line.ensures.sound (inv.1 o)),
+      c.take_line.ensures.memory ∙ inv.0,
+      (λ o. c.take_line.ensures.sound (inv.1 o)),
       λ (o : stock.sound s) (t : Takeable (stock.meaning s) ps).
-          moved_more loss (stock.meaning s) (stock.meaning now) (stock.meaning c.take-line.new.below) ps i p r.0 r.1 (inv.2 o t)
-          (c.take-line.ensures.after (inv.1 o) (takes_next (stock.meaning s) (stock.meaning now) ps i p t r.0 r.1 (inv.2 o t))),
+          moved_more loss (stock.meaning s) (stock.meaning now) (stock.meaning c.take_line.new.below) ps i p r.0 r.1 (inv.2 o t)
+          (c.take_line.ensures.after (inv.1 o) (takes_next (stock.meaning s) (stock.meaning now) ps i p t r.0 r.1 (inv.2 o t))),
     )
 
 pub returns : goal.returns

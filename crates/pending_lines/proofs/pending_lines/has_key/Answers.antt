@@ -23,4 +23,4 @@ returns c =
     let long = length-map ls keyed in
     let in_range : i < length ls = omega arith in
     let here : ltb i (length xs) ≡ true = lt-ltb i (length xs) (omega arith) in
-    c.is-eq.ensures ∙ ap is_eq (c.compare-key.ensures ∙ sym (ap (λ (e : Line). row_order e.0 k) (get_or-map keyed ls i _ no_line in_range))) ∙ ap (λ b. b && is_eq (row_order (get_or xs i no_line).0 k)) (sym here)
+    c.is_eq.ensures ∙ ap is_eq (c.compare_key.ensures ∙ sym (ap (λ (e : Line). row_order e.0 k) (get_or-map keyed ls i _ no_line in_range))) ∙ ap (λ b. b && is_eq (row_order (get_or xs i no_line).0 k)) (sym here)

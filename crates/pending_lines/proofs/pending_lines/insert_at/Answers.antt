@@ -9,10 +9,10 @@ returns c =
     let e = c.args.line in
     let long = c.told-lines in
     let p = c.requires in
-    let copied = c.copy-within.ensures.by_index in
+    let copied = c.copy_within.ensures.by_index in
     record {
       long = long;
-      after = opened_from run c.copy-within.new.self i c.args.len e c.copy-within.ensures.len (omega arith) (omega arith)
+      after = opened_from run c.copy_within.new.self i c.args.len e c.copy_within.ensures.len (omega arith) (omega arith)
           (λ k l. copied.1 k e (omega arith))
           (λ k l m. let q : i + (k - (i + 1)) ≡ k - 1 = omega arith in copied.0 k e (omega arith) (omega arith) ∙ ap (λ n. get_or run n e) q)
           (λ k l. copied.2 k e (omega arith));

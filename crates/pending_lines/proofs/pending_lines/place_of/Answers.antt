@@ -36,7 +36,7 @@ loop-low-preserved c =
     let middle = c.loop-low.low + (c.loop-low.high - c.loop-low.low) / 2 in
     let in_range : middle < length ls = omega arith in
     let long = length-map ls keyed in
-    let here : row_order (get_or xs middle no_line).0 k ≡ Less → ⊥ = λ h. c.in-default.not-Less (c.compare-key.ensures ∙ sym (ap (λ (e : Line). row_order e.0 k) (get_or-map keyed ls middle _ no_line in_range)) ∙ h) in (
+    let here : row_order (get_or xs middle no_line).0 k ≡ Less → ⊥ = λ h. c.in_default.not-Less (c.compare_key.ensures ∙ sym (ap (λ (e : Line). row_order e.0 k) (get_or-map keyed ls middle _ no_line in_range)) ∙ h) in (
       omega arith,
       omega arith,
       inv.2,

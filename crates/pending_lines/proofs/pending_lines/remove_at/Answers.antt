@@ -9,14 +9,14 @@ returns c =
     let i = c.args.place in
     let n = c.args.len in
     let b = blank_line in
-    let moved = c.copy-within.new.self in
-    let copied = c.copy-within.ensures.by_index in
+    let moved = c.copy_within.new.self in
+    let copied = c.copy_within.ensures.by_index in
     let long = c.told-lines in
     let p = c.requires in
     record {
       long = long;
       after = ap (λ x. set moved (n - 1) x) c.blank.ensures
-          ∙ closed_from run moved i n b c.copy-within.ensures.len (omega arith) (omega arith)
+          ∙ closed_from run moved i n b c.copy_within.ensures.len (omega arith) (omega arith)
           (λ k l. copied.1 k b l)
           (λ k l m. let q : (i + 1) + (k - i) ≡ k + 1 = omega arith in copied.0 k b l (omega arith) ∙ ap (λ j. get_or run j b) q)
           (λ k l. copied.2 k b (omega arith));

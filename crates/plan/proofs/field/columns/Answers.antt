@@ -13,14 +13,14 @@ bounds-list-i c = omega arith
 pub loop-i-preserved : goal.loop-i-preserved
 loop-i-preserved c =
     let l = c.loop-i in
-    let a = c.in-ok-a in
+    let a = c.in_ok-a in
     filling_more (column c.args.width) 8 c.args.n 0 c.args.bytes.now l.i l.list l.rest.now l.invariant a.a a.left.now (omega arith) (omega arith) a.ensures.is a.ensures.shorter
 
-pub returns-in-err-a : goal.returns-in-err-a
-returns-in-err-a c =
+pub returns-in_err-a : goal.returns-in_err-a
+returns-in_err-a c =
     let l = c.loop-i in
-    let p = err_from_is_err_and c.from-residual.result c.from-residual.ensures.1 in
-    let s = filling_stop (column c.args.width) 8 c.args.n 0 c.args.bytes.now l.i l.list l.rest.now l.invariant c.in-err-a.field-0.0 (omega arith) c.in-err-a.ensures.is in
+    let p = err_from_is_err_and c.from_residual.result c.from_residual.ensures.1 in
+    let s = filling_stop (column c.args.width) 8 c.args.n 0 c.args.bytes.now l.i l.list l.rest.now l.invariant c.in_err-a.field-0.0 (omega arith) c.in_err-a.ensures.is in
     record { is = rw (p.1, p.2) s; shorter = rw p.1 tt }
 
 pub returns : goal.returns

@@ -13,14 +13,14 @@ bounds-list-i c = omega arith
 pub loop-i-preserved : goal.loop-i-preserved
 loop-i-preserved c =
     let l = c.loop-i in
-    let a = c.in-ok-pair in
+    let a = c.in_ok-pair in
     filling_more (column_pair c.args.left c.args.right) 4 c.args.n no_pair c.args.bytes.now l.i l.list l.rest.now l.invariant a.pair a.behind.now (omega arith) (omega arith) a.ensures.is a.ensures.shorter
 
-pub returns-in-err-pair : goal.returns-in-err-pair
-returns-in-err-pair c =
+pub returns-in_err-pair : goal.returns-in_err-pair
+returns-in_err-pair c =
     let l = c.loop-i in
-    let p = err_from_is_err_and c.from-residual.result c.from-residual.ensures.1 in
-    let s = filling_stop (column_pair c.args.left c.args.right) 4 c.args.n no_pair c.args.bytes.now l.i l.list l.rest.now l.invariant c.in-err-pair.field-0.0 (omega arith) c.in-err-pair.ensures.is in
+    let p = err_from_is_err_and c.from_residual.result c.from_residual.ensures.1 in
+    let s = filling_stop (column_pair c.args.left c.args.right) 4 c.args.n no_pair c.args.bytes.now l.i l.list l.rest.now l.invariant c.in_err-pair.field-0.0 (omega arith) c.in_err-pair.ensures.is in
     record { is = rw (p.1, p.2) s; shorter = rw p.1 tt }
 
 pub returns : goal.returns

@@ -21,21 +21,21 @@ use Rattle.posting.proofs.NodeSetting.{at_node, found_at}
 use Rattle.posting.proofs.Step.{board_short}
 use Rattle.posting.proofs.node.change_of_node.Goals as goal
 
-pub returns-in-default : goal.returns-in-default
-returns-in-default g c =
+pub returns-in_default : goal.returns-in_default
+returns-in_default g c =
     record {
       long = search rules;
       changed = λ (moves net net' : ℕ → Lines) (d : Node) (s : g.S.Stock.sound c.args.stock.now) (k : c.args.plan.now.shown ≡ g.M.Measure.model.shows) (here : c.args.node < length (nodes_of c.args.plan.now))
           (ready : Ready g.M.Measure.model (nodes_of c.args.plan.now) (widths_of c.args.plan.now) (g.S.Stock.meaning c.args.stock.now) moves net net') (own : c.args.nets.now ≡ of_node c.args.node (moves c.args.node))
           (reached : Reached g.M.Measure.model (nodes_of c.args.plan.now) (widths_of c.args.plan.now) (g.S.Stock.meaning c.args.stock.now) net' c.args.node c.args.filling.now.room c.args.sheet.now c.args.filling.now.used c.args.filling.now.starts).
-          absurd (c.in-default.not-Some (get_or (nodes_of c.args.plan.now) c.args.node d) (c.node.ensures.answer ∙ slice_get-get_or (nodes_of c.args.plan.now) c.args.node d here));
+          absurd (c.in_default.not-Some (get_or (nodes_of c.args.plan.now) c.args.node d) (c.node.ensures.answer ∙ slice_get-get_or (nodes_of c.args.plan.now) c.args.node d here));
     }
 
 pub returns-in-Base : goal.returns-in-Base
 unfolding board_of
 returns-in-Base g c =
     record {
-      long = c.change-of-base.ensures.long;
+      long = c.change_of_base.ensures.long;
       changed = λ (moves net net' : ℕ → Lines) (d : Node) (s : g.S.Stock.sound c.args.stock.now) (k : c.args.plan.now.shown ≡ g.M.Measure.model.shows) (here : c.args.node < length (nodes_of c.args.plan.now))
           (ready : Ready g.M.Measure.model (nodes_of c.args.plan.now) (widths_of c.args.plan.now) (g.S.Stock.meaning c.args.stock.now) moves net net') (own : c.args.nets.now ≡ of_node c.args.node (moves c.args.node))
           (reached : Reached g.M.Measure.model (nodes_of c.args.plan.now) (widths_of c.args.plan.now) (g.S.Stock.meaning c.args.stock.now) net' c.args.node c.args.filling.now.room c.args.sheet.now c.args.filling.now.used c.args.filling.now.starts).
@@ -49,15 +49,15 @@ returns-in-Base g c =
           let few : length xs ≤ 16 = let e = length-take c.args.plan.now.len c.args.plan.now.nodes in omega (arith, e, c.args.plan.now.few) in
           let at = at_node M xs ws h net net' c.args.node x d c.args.filling.now.room c.args.sheet.now c.args.filling.now.used c.args.filling.now.starts (ap (λ n. widths n [] xs) k) (g.S.Stock.lawful c.args.stock.now s) few moves ready here c.args.plan.now.shown ws found sound reached in
           let base : is_base (get_or xs c.args.node d) ≡ true = ap is_base (found_at xs c.args.node x d here found) in
-          at.turned c.change-of-base.new.sheet c.change-of-base.result
-          (c.change-of-base.ensures.changed ws (net c.args.node) (moves c.args.node) (net' c.args.node) (changes_to h (afresh M xs net') c.args.node) (afresh M xs net') s at.setting at.filled own (ready.bases c.args.node d here base).changes);
+          at.turned c.change_of_base.new.sheet c.change_of_base.result
+          (c.change_of_base.ensures.changed ws (net c.args.node) (moves c.args.node) (net' c.args.node) (changes_to h (afresh M xs net') c.args.node) (afresh M xs net') s at.setting at.filled own (ready.bases c.args.node d here base).changes);
     }
 
 pub returns-in-Keep : goal.returns-in-Keep
 unfolding board_of
 returns-in-Keep g c =
     record {
-      long = c.change-of-keep.ensures.long;
+      long = c.change_of_keep.ensures.long;
       changed = λ (moves net net' : ℕ → Lines) (d : Node) (s : g.S.Stock.sound c.args.stock.now) (k : c.args.plan.now.shown ≡ g.M.Measure.model.shows) (here : c.args.node < length (nodes_of c.args.plan.now))
           (ready : Ready g.M.Measure.model (nodes_of c.args.plan.now) (widths_of c.args.plan.now) (g.S.Stock.meaning c.args.stock.now) moves net net') (own : c.args.nets.now ≡ of_node c.args.node (moves c.args.node))
           (reached : Reached g.M.Measure.model (nodes_of c.args.plan.now) (widths_of c.args.plan.now) (g.S.Stock.meaning c.args.stock.now) net' c.args.node c.args.filling.now.room c.args.sheet.now c.args.filling.now.used c.args.filling.now.starts).
@@ -74,15 +74,15 @@ returns-in-Keep g c =
           let at = at_node M xs ws h net net' c.args.node x d c.args.filling.now.room c.args.sheet.now c.args.filling.now.used c.args.filling.now.starts (ap (λ n. widths n [] xs) k) (g.S.Stock.lawful c.args.stock.now s) few moves ready here c.args.plan.now.shown ws found sound reached in
           let low = sound.lower in
           let run = c.run.ensures (omega (arith, low, here, few)) in
-          at.turned c.change-of-keep.new.sheet c.change-of-keep.result
-          (c.change-of-keep.ensures.changed ws c.in-Keep.child ds news s low at.setting at.filled (at.run c.in-Keep.child low c.run.result.from c.run.result.to run.0 run.1));
+          at.turned c.change_of_keep.new.sheet c.change_of_keep.result
+          (c.change_of_keep.ensures.changed ws c.in-Keep.child ds news s low at.setting at.filled (at.run c.in-Keep.child low c.run.result.from c.run.result.to run.0 run.1));
     }
 
 pub returns-in-Pick : goal.returns-in-Pick
 unfolding board_of
 returns-in-Pick g c =
     record {
-      long = c.change-of-pick.ensures.long;
+      long = c.change_of_pick.ensures.long;
       changed = λ (moves net net' : ℕ → Lines) (d : Node) (s : g.S.Stock.sound c.args.stock.now) (k : c.args.plan.now.shown ≡ g.M.Measure.model.shows) (here : c.args.node < length (nodes_of c.args.plan.now))
           (ready : Ready g.M.Measure.model (nodes_of c.args.plan.now) (widths_of c.args.plan.now) (g.S.Stock.meaning c.args.stock.now) moves net net') (own : c.args.nets.now ≡ of_node c.args.node (moves c.args.node))
           (reached : Reached g.M.Measure.model (nodes_of c.args.plan.now) (widths_of c.args.plan.now) (g.S.Stock.meaning c.args.stock.now) net' c.args.node c.args.filling.now.room c.args.sheet.now c.args.filling.now.used c.args.filling.now.starts).
@@ -105,8 +105,8 @@ returns-in-Pick g c =
           let enough = reached.filled.room_enough in
           let small = reached.filled.on_sheet.small in
           let space : length c.args.space.now.lines ≡ 8192 = search rules in
-          at.turned c.change-of-pick.new.sheet c.change-of-pick.result
-          (c.change-of-pick.ensures.changed ws c.in-Pick.child ds news s low at.setting at.filled lines (omega (arith, long, short, enough, small, space)));
+          at.turned c.change_of_pick.new.sheet c.change_of_pick.result
+          (c.change_of_pick.ensures.changed ws c.in-Pick.child ds news s low at.setting at.filled lines (omega (arith, long, short, enough, small, space)));
     }
 
 pub returns-in-Pair : goal.returns-in-Pair
@@ -131,15 +131,15 @@ returns-in-Pair g c =
           let left = sound.left in
           let right = sound.right in
           let narrow = sound.narrow in
-          let a = c.side-of-l.result in
-          let b = c.side-of-r.result in
+          let a = c.side_of-l.result in
+          let b = c.side_of-r.result in
           let ps = pairs_of c.in-Pair.count c.in-Pair.pairs in
-          let an : a.node ≡ c.in-Pair.left = c.side-of-l.ensures.0 in
-          let bn : b.node ≡ c.in-Pair.right = c.side-of-r.ensures.0 in
-          let aw : a.width ≡ get_or ws c.in-Pair.left 0 = c.side-of-l.ensures.1 (omega (arith, left, here)) in
-          let bw : b.width ≡ get_or ws c.in-Pair.right 0 = c.side-of-r.ensures.1 (omega (arith, right, here)) in
-          let l = c.side-of-l.ensures.2 (omega (arith, left, here, few)) in
-          let r = c.side-of-r.ensures.2 (omega (arith, right, here, few)) in
+          let an : a.node ≡ c.in-Pair.left = c.side_of-l.ensures.0 in
+          let bn : b.node ≡ c.in-Pair.right = c.side_of-r.ensures.0 in
+          let aw : a.width ≡ get_or ws c.in-Pair.left 0 = c.side_of-l.ensures.1 (omega (arith, left, here)) in
+          let bw : b.width ≡ get_or ws c.in-Pair.right 0 = c.side_of-r.ensures.1 (omega (arith, right, here)) in
+          let l = c.side_of-l.ensures.2 (omega (arith, left, here, few)) in
+          let r = c.side_of-r.ensures.2 (omega (arith, right, here, few)) in
           let old : pair (get_or ws c.in-Pair.left 0) ps (shelf_of h c.in-Pair.left) (shelf_of h c.in-Pair.right) ≡ pair a.width ps (shelf_of h a.node) (shelf_of h b.node) =
           sym (ap (λ w. pair w ps (shelf_of h a.node) (shelf_of h b.node)) aw ∙ ap₂ (λ m n. pair (get_or ws c.in-Pair.left 0) ps (shelf_of h m) (shelf_of h n)) an bn) in
           let new : pair a.width ps (board news a.node) (board news b.node) ≡ pair (get_or ws c.in-Pair.left 0) ps (board news c.in-Pair.left) (board news c.in-Pair.right) =
@@ -156,7 +156,7 @@ pub returns-in-Both : goal.returns-in-Both
 unfolding board_of
 returns-in-Both g c =
     record {
-      long = c.change-of-both.ensures.long;
+      long = c.change_of_both.ensures.long;
       changed = λ (moves net net' : ℕ → Lines) (d : Node) (s : g.S.Stock.sound c.args.stock.now) (k : c.args.plan.now.shown ≡ g.M.Measure.model.shows) (here : c.args.node < length (nodes_of c.args.plan.now))
           (ready : Ready g.M.Measure.model (nodes_of c.args.plan.now) (widths_of c.args.plan.now) (g.S.Stock.meaning c.args.stock.now) moves net net') (own : c.args.nets.now ≡ of_node c.args.node (moves c.args.node))
           (reached : Reached g.M.Measure.model (nodes_of c.args.plan.now) (widths_of c.args.plan.now) (g.S.Stock.meaning c.args.stock.now) net' c.args.node c.args.filling.now.room c.args.sheet.now c.args.filling.now.used c.args.filling.now.starts).
@@ -175,8 +175,8 @@ returns-in-Both g c =
           let right = sound.right in
           let l = c.run-l.ensures (omega (arith, left, here, few)) in
           let r = c.run-r.ensures (omega (arith, right, here, few)) in
-          at.turned c.change-of-both.new.sheet c.change-of-both.result
-          (c.change-of-both.ensures.changed ws c.in-Both.left c.in-Both.right ds news s left right at.setting at.filled
+          at.turned c.change_of_both.new.sheet c.change_of_both.result
+          (c.change_of_both.ensures.changed ws c.in-Both.left c.in-Both.right ds news s left right at.setting at.filled
           (at.run c.in-Both.left left c.run-l.result.from c.run-l.result.to l.0 l.1)
           (at.run c.in-Both.right right c.run-r.result.from c.run-r.result.to r.0 r.1));
     }

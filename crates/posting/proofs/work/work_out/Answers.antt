@@ -40,11 +40,11 @@ returns-then-used-room g c =
           let inv = c.loop-i.invariant.2 ms net net' s k ready many nets on in
           let i = c.loop-i.i in
           let here : i < length (nodes_of p) = omega (arith, c.loop-i-test.true, c.len-i-end.ensures.answer) in
-          let among : drop c.loop-i.net-from c.args.nets.now ≡ of_node i (board ms i) ++ flattened (suc i) (drop (i + 1) ms) = ap (drop c.loop-i.net-from) nets ∙ ap (λ n. drop n (flattened 0 ms)) inv.0 ∙ net_here ms i (omega (arith, here, many)) in
-          let ends = c.end-of-node-net-to.ensures (board ms i) (drop (i + 1) ms) among in
-          let own = c.part-of-node-part.ensures i (board ms i) (drop (i + 1) ms) among ends in
-          let made = c.change-of-node.ensures.changed (board ms) net net' (Base 0) s k here ready own inv.1 in
-          refused_so M (nodes_of p) (widths_of p) h net' c.args.room c.change-of-node.new.sheet c.loop-i.filling.room (Paper i) c.loop-i.invariant.1 (sym inv.2 ∙ plan_paper M L p k h law (board ms) net net' few ready i here c.loop-i.filling.room c.loop-i.sheet c.loop-i.filling.used c.loop-i.filling.starts inv.1 c.change-of-node.new.sheet c.change-of-node.result made c.in-Ok.used c.in-Ok.is (subst (λ n. n < c.in-Ok.used) (sym c.loop-i.invariant.1) c.if-used-room.true));
+          let among : drop c.loop-i.net_from c.args.nets.now ≡ of_node i (board ms i) ++ flattened (suc i) (drop (i + 1) ms) = ap (drop c.loop-i.net_from) nets ∙ ap (λ n. drop n (flattened 0 ms)) inv.0 ∙ net_here ms i (omega (arith, here, many)) in
+          let ends = c.end_of_node-net_to.ensures (board ms i) (drop (i + 1) ms) among in
+          let own = c.part_of_node-part.ensures i (board ms i) (drop (i + 1) ms) among ends in
+          let made = c.change_of_node.ensures.changed (board ms) net net' (Base 0) s k here ready own inv.1 in
+          refused_so M (nodes_of p) (widths_of p) h net' c.args.room c.change_of_node.new.sheet c.loop-i.filling.room (Paper i) c.loop-i.invariant.1 (sym inv.2 ∙ plan_paper M L p k h law (board ms) net net' few ready i here c.loop-i.filling.room c.loop-i.sheet c.loop-i.filling.used c.loop-i.filling.starts inv.1 c.change_of_node.new.sheet c.change_of_node.result made c.in-Ok.used c.in-Ok.is (subst (λ n. n < c.in-Ok.used) (sym c.loop-i.invariant.1) c.if-used-room.true));
     }
 
 pub loop-i-preserved : goal.loop-i-preserved
@@ -63,18 +63,18 @@ loop-i-preserved g c = (
       let inv = c.loop-i.invariant.2 ms net net' s k ready many nets on in
       let i = c.loop-i.i in
       let here : i < length (nodes_of p) = omega (arith, c.loop-i-test.true, c.len-i-end.ensures.answer) in
-      let among : drop c.loop-i.net-from c.args.nets.now ≡ of_node i (board ms i) ++ flattened (suc i) (drop (i + 1) ms) = ap (drop c.loop-i.net-from) nets ∙ ap (λ n. drop n (flattened 0 ms)) inv.0 ∙ net_here ms i (omega (arith, here, many)) in
-      let ends = c.end-of-node-net-to.ensures (board ms i) (drop (i + 1) ms) among in
-      let own = c.part-of-node-part.ensures i (board ms i) (drop (i + 1) ms) among ends in
-      let made = c.change-of-node.ensures.changed (board ms) net net' (Base 0) s k here ready own inv.1 in
+      let among : drop c.loop-i.net_from c.args.nets.now ≡ of_node i (board ms i) ++ flattened (suc i) (drop (i + 1) ms) = ap (drop c.loop-i.net_from) nets ∙ ap (λ n. drop n (flattened 0 ms)) inv.0 ∙ net_here ms i (omega (arith, here, many)) in
+      let ends = c.end_of_node-net_to.ensures (board ms i) (drop (i + 1) ms) among in
+      let own = c.part_of_node-part.ensures i (board ms i) (drop (i + 1) ms) among ends in
+      let made = c.change_of_node.ensures.changed (board ms) net net' (Base 0) s k here ready own inv.1 in
       let fits : c.in-Ok.used ≤ c.loop-i.filling.room = subst (λ n. c.in-Ok.used ≤ n) (sym c.loop-i.invariant.1) c.if-used-room.false in
       let long = c.loop-i.invariant.0 in
       let old : (j : ℕ) → j ≤ i → get_or (set c.loop-i.filling.starts (i + 1) c.in-Ok.used) j 0 ≡ get_or c.loop-i.filling.starts j 0 =
       λ j l. let ne : j ≢ i + 1 = omega arith in get_or-set_other c.loop-i.filling.starts (i + 1) j c.in-Ok.used 0 ne in
       let last : get_or (set c.loop-i.filling.starts (i + 1) c.in-Ok.used) (i + 1) 0 ≡ c.in-Ok.used = get_or-set_same c.loop-i.filling.starts (i + 1) c.in-Ok.used 0 (omega (arith, here, few, long)) in (
         ends ∙ ap (λ n. n + length (board ms i)) inv.0 ∙ net_next ms i (omega (arith, here, many)),
-        plan_more M L p k h law (board ms) net net' few ready i here c.loop-i.filling.room c.loop-i.sheet c.loop-i.filling.used c.loop-i.filling.starts inv.1 c.change-of-node.new.sheet c.change-of-node.result made c.in-Ok.used c.in-Ok.is fits (set c.loop-i.filling.starts (i + 1) c.in-Ok.used) old last,
-        sym (plan_on M L p k h law (board ms) net net' few ready i here c.loop-i.filling.room c.loop-i.sheet c.loop-i.filling.used c.loop-i.filling.starts inv.1 c.change-of-node.new.sheet c.change-of-node.result made c.in-Ok.used c.in-Ok.is fits) ∙ inv.2,
+        plan_more M L p k h law (board ms) net net' few ready i here c.loop-i.filling.room c.loop-i.sheet c.loop-i.filling.used c.loop-i.filling.starts inv.1 c.change_of_node.new.sheet c.change_of_node.result made c.in-Ok.used c.in-Ok.is fits (set c.loop-i.filling.starts (i + 1) c.in-Ok.used) old last,
+        sym (plan_on M L p k h law (board ms) net net' few ready i here c.loop-i.filling.room c.loop-i.sheet c.loop-i.filling.used c.loop-i.filling.starts inv.1 c.change_of_node.new.sheet c.change_of_node.result made c.in-Ok.used c.in-Ok.is fits) ∙ inv.2,
       ),
 )
 
@@ -94,11 +94,11 @@ returns-in-Err g c =
           let inv = c.loop-i.invariant.2 ms net net' s k ready many nets on in
           let i = c.loop-i.i in
           let here : i < length (nodes_of p) = omega (arith, c.loop-i-test.true, c.len-i-end.ensures.answer) in
-          let among : drop c.loop-i.net-from c.args.nets.now ≡ of_node i (board ms i) ++ flattened (suc i) (drop (i + 1) ms) = ap (drop c.loop-i.net-from) nets ∙ ap (λ n. drop n (flattened 0 ms)) inv.0 ∙ net_here ms i (omega (arith, here, many)) in
-          let ends = c.end-of-node-net-to.ensures (board ms i) (drop (i + 1) ms) among in
-          let own = c.part-of-node-part.ensures i (board ms i) (drop (i + 1) ms) among ends in
-          let made = c.change-of-node.ensures.changed (board ms) net net' (Base 0) s k here ready own inv.1 in
-          refused_so M (nodes_of p) (widths_of p) h net' c.args.room c.change-of-node.new.sheet c.loop-i.filling.room c.at.result c.loop-i.invariant.1 (sym inv.2 ∙ plan_refused M L p k h law (board ms) net net' few ready i here c.loop-i.filling.room c.loop-i.sheet c.loop-i.filling.used c.loop-i.filling.starts inv.1 c.change-of-node.new.sheet c.change-of-node.result made c.in-Err.fault c.in-Err.is ∙ ap Err (sym c.at.ensures));
+          let among : drop c.loop-i.net_from c.args.nets.now ≡ of_node i (board ms i) ++ flattened (suc i) (drop (i + 1) ms) = ap (drop c.loop-i.net_from) nets ∙ ap (λ n. drop n (flattened 0 ms)) inv.0 ∙ net_here ms i (omega (arith, here, many)) in
+          let ends = c.end_of_node-net_to.ensures (board ms i) (drop (i + 1) ms) among in
+          let own = c.part_of_node-part.ensures i (board ms i) (drop (i + 1) ms) among ends in
+          let made = c.change_of_node.ensures.changed (board ms) net net' (Base 0) s k here ready own inv.1 in
+          refused_so M (nodes_of p) (widths_of p) h net' c.args.room c.change_of_node.new.sheet c.loop-i.filling.room c.at.result c.loop-i.invariant.1 (sym inv.2 ∙ plan_refused M L p k h law (board ms) net net' few ready i here c.loop-i.filling.room c.loop-i.sheet c.loop-i.filling.used c.loop-i.filling.starts inv.1 c.change_of_node.new.sheet c.change_of_node.result made c.in-Err.fault c.in-Err.is ∙ ap Err (sym c.at.ensures));
     }
 
 pub returns : goal.returns

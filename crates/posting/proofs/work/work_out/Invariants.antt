@@ -15,6 +15,6 @@ invariant-loop-i g l =
     let xs = nodes_of l.plan in
     (length l.filling.starts ≡ 17) × (l.filling.room ≡ l.room)
     × ((ms : List Lines) (net net' : ℕ → Lines) → g.S.Stock.sound l.stock → l.plan.shown ≡ M.shows → Ready M xs (widths_of l.plan) h (board ms) net net' → length xs ≤ length ms → l.nets ≡ flattened 0 ms → OnSheet l.room l.initial.sheet 0 [] →
-    (l.net-from ≡ length (flattened 0 (take l.i ms)))
+    (l.net_from ≡ length (flattened 0 (take l.i ms)))
     × Reached M xs (widths_of l.plan) h net' l.i l.filling.room l.sheet l.filling.used l.filling.starts
     × (judged_from M h.shelves (afresh M xs net') l.filling.room l.i l.filling.used (drop l.i xs) ≡ judged M h.shelves (afresh M xs net') l.filling.room xs))

@@ -19,11 +19,11 @@ loop-line-preserved g c =
     let i = c.loop-line.line-index in
     let l = c.loop-line-test.true in
     let inv = c.loop-line.invariant in (
-      c.put-line.ensures.memory ∙ inv.0,
-      (λ o. c.put-line.ensures.sound (inv.1 o)),
+      c.put_line.ensures.memory ∙ inv.0,
+      (λ o. c.put_line.ensures.sound (inv.1 o)),
       λ (aim : Holding) (o : stock.sound s) (t : Puttable (stock.meaning s) lines aim).
-          moved_more gain (stock.meaning s) (stock.meaning now) (stock.meaning c.put-line.new.stock) lines i no_line l (inv.2 aim o t)
-          (c.put-line.ensures.after (inv.1 o) (puts_next (stock.meaning s) (stock.meaning now) lines i no_line aim t l (inv.2 aim o t) (stock.lawful now (inv.1 o)))),
+          moved_more gain (stock.meaning s) (stock.meaning now) (stock.meaning c.put_line.new.stock) lines i no_line l (inv.2 aim o t)
+          (c.put_line.ensures.after (inv.1 o) (puts_next (stock.meaning s) (stock.meaning now) lines i no_line aim t l (inv.2 aim o t) (stock.lawful now (inv.1 o)))),
     )
 
 pub returns : goal.returns

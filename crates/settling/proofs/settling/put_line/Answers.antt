@@ -14,7 +14,7 @@ returns-then-n-gt0 g c =
     let stock = g.S.Stock in
     let s = c.args.stock.now in
     let p = c.args.line.now in
-    let n = c.copies-gained-n.result in
+    let n = c.copies_gained-n.result in
     record {
       memory = c.put.ensures.memory;
       sound = c.put.ensures.sound;
@@ -24,7 +24,7 @@ returns-then-n-gt0 g c =
           let low = count_low (shelf_of h p.node) (law.bags p.node).1 p.row in
           let within = t.within in
           let are = copies_are h law p.node p.row in
-          let is = c.copies-gained-n.ensures (omega (arith, ints, low, within)) in
+          let is = c.copies_gained-n.ensures (omega (arith, ints, low, within)) in
           let same : nat_abs (at_least_zero p.change) ≡ n = sym (ap nat_abs is) in
           let room : lacks_room h p.node p.row n ≡ false = subst (λ m. lacks_room h p.node p.row m ≡ false) same t.room in
           let left = c.put.ensures.after o ∙ accepted_put h p.node p.row n t.shelf (omega (arith, ints, is, within, are)) room in
@@ -37,7 +37,7 @@ returns-else-n-gt0 g c =
     let stock = g.S.Stock in
     let s = c.args.stock.now in
     let p = c.args.line.now in
-    let n = c.copies-gained-n.result in
+    let n = c.copies_gained-n.result in
     record {
       memory = refl;
       sound = λ o. o;
@@ -46,7 +46,7 @@ returns-else-n-gt0 g c =
           let law = stock.lawful s o in
           let low = count_low (shelf_of h p.node) (law.bags p.node).1 p.row in
           let within = t.within in
-          let is = c.copies-gained-n.ensures (omega (arith, ints, low, within)) in
+          let is = c.copies_gained-n.ensures (omega (arith, ints, low, within)) in
           let none : pos 0 ≡ at_least_zero p.change = let m : n ≡ 0 = omega arith in sym (ap pos m) ∙ is in
           subst (λ (z : ℤ). Moved h h ((key_of p, z) ∷ [])) none (moved_still h (key_of p));
     }

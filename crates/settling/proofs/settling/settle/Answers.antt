@@ -9,17 +9,17 @@ returns g c =
     let stock = g.S.Stock in
     let s = c.args.stock.now in
     let lines = c.args.lines.now in
-    let mid = c.take-all.new.stock in
-    let end = c.put-all.new.stock in
+    let mid = c.take_all.new.stock in
+    let end = c.put_all.new.stock in
     record {
       memory = cc;
       sound = search rules;
       after = λ (aim : Holding) (o : stock.sound s) (leads : Leads (stock.meaning s) lines aim).
           let h = stock.meaning s in
           let law = stock.lawful s o in
-          let sound-mid = c.take-all.ensures.sound o in
-          let sound-end = c.put-all.ensures.sound sound-mid in
-          let took = c.take-all.ensures.after o (takeable_from h aim lines law leads) in
-          let gave = c.put-all.ensures.after aim sound-mid (puttable_from h aim lines law leads (stock.meaning mid) took) in
+          let sound-mid = c.take_all.ensures.sound o in
+          let sound-end = c.put_all.ensures.sound sound-mid in
+          let took = c.take_all.ensures.after o (takeable_from h aim lines law leads) in
+          let gave = c.put_all.ensures.after aim sound-mid (puttable_from h aim lines law leads (stock.meaning mid) took) in
           arrived h aim lines law leads (stock.meaning mid) (stock.meaning end) took gave (stock.lawful end sound-end);
     }

@@ -18,11 +18,11 @@ loop-line-preserved g c =
     let i = c.loop-line.line-index in
     let l = c.loop-line-test.true in
     let inv = c.loop-line.invariant in (
-      c.take-line.ensures.memory ∙ inv.0,
-      (λ o. c.take-line.ensures.sound (inv.1 o)),
+      c.take_line.ensures.memory ∙ inv.0,
+      (λ o. c.take_line.ensures.sound (inv.1 o)),
       λ (o : stock.sound s) (t : Takeable (stock.meaning s) lines).
-          moved_more loss (stock.meaning s) (stock.meaning now) (stock.meaning c.take-line.new.stock) lines i no_line l (inv.2 o t)
-          (c.take-line.ensures.after (inv.1 o) (takes_next (stock.meaning s) (stock.meaning now) lines i no_line t l (inv.2 o t))),
+          moved_more loss (stock.meaning s) (stock.meaning now) (stock.meaning c.take_line.new.stock) lines i no_line l (inv.2 o t)
+          (c.take_line.ensures.after (inv.1 o) (takes_next (stock.meaning s) (stock.meaning now) lines i no_line t l (inv.2 o t))),
     )
 
 pub returns : goal.returns

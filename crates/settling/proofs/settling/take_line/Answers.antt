@@ -13,14 +13,14 @@ returns-then-n-gt0 g c =
     let stock = g.S.Stock in
     let s = c.args.stock.now in
     let p = c.args.line.now in
-    let n = c.copies-lost-n.result in
+    let n = c.copies_lost-n.result in
     record {
       memory = c.take.ensures.memory;
       sound = c.take.ensures.sound;
       after = λ (o : stock.sound s) (t : TakesLine (stock.meaning s) p).
           let h = stock.meaning s in
           let law = stock.lawful s o in
-          let is = c.copies-lost-n.ensures t.short in
+          let is = c.copies_lost-n.ensures t.short in
           let there = t.there in
           let are = copies_are h law p.node p.row in
           let left = c.take.ensures.after o ∙ accepted_take h p.node p.row n t.shelf (omega (arith, ints, is, there, are)) in
@@ -33,12 +33,12 @@ returns-else-n-gt0 g c =
     let stock = g.S.Stock in
     let s = c.args.stock.now in
     let p = c.args.line.now in
-    let n = c.copies-lost-n.result in
+    let n = c.copies_lost-n.result in
     record {
       memory = refl;
       sound = λ o. o;
       after = λ (o : stock.sound s) (t : TakesLine (stock.meaning s) p).
-          let is = c.copies-lost-n.ensures t.short in
+          let is = c.copies_lost-n.ensures t.short in
           let none : pos 0 ≡ taken p.change = let m : n ≡ 0 = omega arith in sym (ap pos m) ∙ is in
           subst (λ (z : ℤ). Moved (stock.meaning s) (stock.meaning s) ((key_of p, neg_ℤ z) ∷ [])) none (moved_still (stock.meaning s) (key_of p));
     }

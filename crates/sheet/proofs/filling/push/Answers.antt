@@ -18,7 +18,7 @@ returns-then-used-room-2 c =
       long = search rules;
       after = λ (es : List ChangeLine). λ (o : OnSheet c.args.room c.args.sheet.now c.args.used es).
           let s = o.small in
-          on_full c.args.room c.args.sheet.now c.args.used es c.args.line c.saturating-add.result o (omega arith) (omega arith);
+          on_full c.args.room c.args.sheet.now c.args.used es c.args.line c.saturating_add.result o (omega arith) (omega arith);
     }
 
 pub returns-else-used-room-2 : goal.returns-else-used-room-2

@@ -18,14 +18,14 @@ loop-i-preserved g c =
     let k₀ = g.T.Stock.meaning c.args.b.now in
     let h = g.S.Stock.meaning c.loop-i.a in
     let k = g.T.Stock.meaning c.loop-i.b in
-    let h' = g.S.Stock.meaning c.call-both-same.new.a in
-    let k' = g.T.Stock.meaning c.call-both-same.new.b in
-    let made = c.call-both-same.ensures in
+    let h' = g.S.Stock.meaning c.call_both-same.new.a in
+    let k' = g.T.Stock.meaning c.call_both-same.new.b in
+    let made = c.call_both-same.ensures in
     let a = c.loop-i.invariant.0 in
     let b = c.loop-i.invariant.1 in (
       λ (s : SA). (made.first (a s).0, after_more h h' call left (made.one (a s).0) ∙ ap (after_calls h) (sym split) ∙ (a s).1),
       λ (s : SB). (made.second (b s).0, after_more k k' call left (made.other (b s).0) ∙ ap (after_calls k) (sym split) ∙ (b s).1),
-      λ (s : SA) (t : SB). compared_more h₀ k₀ cs h k h' k' call left c.loop-i.alike c.call-both-same.result (made.one (a s).0) (made.other (b t).0) (made.answer (a s).0 (b t).0)
+      λ (s : SA) (t : SB). compared_more h₀ k₀ cs h k h' k' call left c.loop-i.alike c.call_both-same.result (made.one (a s).0) (made.other (b t).0) (made.answer (a s).0 (b t).0)
           (subst (λ l. Compared h₀ k₀ cs h k l c.loop-i.alike) split (c.loop-i.invariant.2 s t)),
     )
 

@@ -12,7 +12,7 @@ returns c =
           let b = c.args.self.now.bytes.now in
           let len = c.args.self.now.len in
           let m = h.room in
-          let a = c.room-in.ensures.answer in
+          let a = c.room_in.ensures.answer in
           let e : c.min.result ≡ len = omega arith in
           e ∙ sym (length_stored b len) ∙ sym (lines_are_length (stored_in len b) h.lawful h.apart);
     }

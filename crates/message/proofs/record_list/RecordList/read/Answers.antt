@@ -8,15 +8,15 @@ use Rattle.message.proofs.Readings.{onward, step_ended, step_refused, step_read_
 use Rattle.message.proofs.Listings.{prefixed, prefixed_more}
 use Rattle.message.proofs.record_list.RecordList.read.Goals as goal
 
-pub returns-in-err-record : goal.returns-in-err-record
-returns-in-err-record c =
+pub returns-in_err-record : goal.returns-in_err-record
+returns-in_err-record c =
     let m = c.args.message.now in
     let at = c.loop-record.reader.at in
     let i = c.loop-record.invariant in
-    let p = err_from_is_err_and c.from-residual.result c.from-residual.ensures.1 in
-    let s : (Err (read_refusal c.in-err-record.field-0.0), c.next.new.self.at, c.next.new.self.seen) ≡ step m at c.loop-record.len = c.in-err-record.ensures.step ∙ (ap (λ b. step b at c.loop-record.reader.seen) i.3 ∙ ap (step m at) i.0) in
-    let o = step_refused m at c.loop-record.len c.next.new.self.at c.next.new.self.seen (read_refusal c.in-err-record.field-0.0) s in
-    let e = ap (λ x. prefixed (take c.loop-record.len c.loop-record.records) (records_of x)) o ∙ ap (prefixed (take c.loop-record.len c.loop-record.records)) (records_refused (read_refusal c.in-err-record.field-0.0)) in
+    let p = err_from_is_err_and c.from_residual.result c.from_residual.ensures.1 in
+    let s : (Err (read_refusal c.in_err-record.field-0.0), c.next.new.self.at, c.next.new.self.seen) ≡ step m at c.loop-record.len = c.in_err-record.ensures.step ∙ (ap (λ b. step b at c.loop-record.reader.seen) i.3 ∙ ap (step m at) i.0) in
+    let o = step_refused m at c.loop-record.len c.next.new.self.at c.next.new.self.seen (read_refusal c.in_err-record.field-0.0) s in
+    let e = ap (λ x. prefixed (take c.loop-record.len c.loop-record.records) (records_of x)) o ∙ ap (prefixed (take c.loop-record.len c.loop-record.records)) (records_refused (read_refusal c.in_err-record.field-0.0)) in
     rw (p.1, p.2) (sym e ∙ i.4)
 
 was_read : (c : goal.In-Some) → Read c.args.message.now c.loop-record.reader.at c.loop-record.len c.next.new.self.at c.next.new.self.seen c.in-Some.record
@@ -25,7 +25,7 @@ was_read c =
     let at = c.loop-record.reader.at in
     let i = c.loop-record.invariant in
     let told : Option Record → Step = λ o. (Ok o, c.next.new.self.at, c.next.new.self.seen) in
-    let s : told (Some c.in-Some.record) ≡ step m at c.loop-record.len = sym (ap told c.in-Some.is) ∙ (c.in-ok-record.ensures.step ∙ (ap (λ b. step b at c.loop-record.reader.seen) i.3 ∙ ap (step m at) i.0)) in
+    let s : told (Some c.in-Some.record) ≡ step m at c.loop-record.len = sym (ap told c.in-Some.is) ∙ (c.in_ok-record.ensures.step ∙ (ap (λ b. step b at c.loop-record.reader.seen) i.3 ∙ ap (step m at) i.0)) in
     step_read_one m at c.loop-record.len c.next.new.self.at c.next.new.self.seen c.in-Some.record s
 
 pub loop-record-smaller : goal.loop-record-smaller
@@ -54,7 +54,7 @@ returns c =
     let len = c.loop-record.len in
     let rs = c.loop-record.records in
     let told : Option Record → Step = λ o. (Ok o, c.next.new.self.at, c.next.new.self.seen) in
-    let s : told None ≡ step m at len = sym (ap told c.in-default.is) ∙ (c.in-ok-record.ensures.step ∙ (ap (λ b. step b at c.loop-record.reader.seen) i.3 ∙ ap (step m at) i.0)) in
+    let s : told None ≡ step m at len = sym (ap told c.in_default.is) ∙ (c.in_ok-record.ensures.step ∙ (ap (λ b. step b at c.loop-record.reader.seen) i.3 ∙ ap (step m at) i.0)) in
     let o = step_ended m at len c.next.new.self.at c.next.new.self.seen s in
     let e : prefixed (take len rs) (records_of (onward m at len)) ≡ Ok (take len rs) =
     ap (λ x. prefixed (take len rs) (records_of x)) o ∙ (ap (prefixed (take len rs)) records_end ∙ ap Ok (append-nil (take len rs))) in

@@ -26,7 +26,7 @@ returns-in-Ok c =
     let some = c.if-n-eq0.false in
     let room = λ (s : S). room_from (held a) c.args.shelf c.args.row.now m c.lines.result c.capacity-capacity.result (there s) (c.lines.ensures.answer s) (c.capacity-capacity.ensures.answer s) c.if-count-lines.false in
     let done = λ (s : S). let n = s.holding.counts c.args.shelf c.args.row.now in let e = there s in
-    put_done a s c.args.shelf c.args.row.now c.args.n c.if-shelf-gt15.false m (there s) (record { table = c.add.new.self }) add.same (add.sound s.table) c.read-columns.ensures (omega arith) (omega (arith, some)) (room s) (add.after s.table) in
+    put_done a s c.args.shelf c.args.row.now c.args.n c.if-shelf-gt15.false m (there s) (record { table = c.add.new.self }) add.same (add.sound s.table) c.read_columns.ensures (omega arith) (omega (arith, some)) (room s) (add.after s.table) in
     record { memory = add.same.lender; sound = λ (s : S). (done s).sound; answer = λ (s : S). (done s).accepted; after = λ (s : S). (done s).after }
 
 pub returns-in-Err : goal.returns-in-Err

@@ -32,7 +32,7 @@ returns-in-Ok c =
     let enough = c.if-count-n.false in
     let some = c.if-line-eq0.false in
     let done = λ (s : S). let n = s.holding.counts c.args.shelf c.args.row.now in let e = there s in
-    take_done a s c.args.shelf c.args.row.now c.args.n c.if-shelf-gt15.false m (there s) (record { table = c.add.new.self }) add.same (add.sound s.table) c.read-columns.ensures (omega arith) (omega (arith, some)) (add.after s.table) in
+    take_done a s c.args.shelf c.args.row.now c.args.n c.if-shelf-gt15.false m (there s) (record { table = c.add.new.self }) add.same (add.sound s.table) c.read_columns.ensures (omega arith) (omega (arith, some)) (add.after s.table) in
     record { memory = add.same.lender; sound = λ (s : S). (done s).sound; answer = λ (s : S). (done s).accepted; after = λ (s : S). (done s).after }
 
 pub returns-in-Err : goal.returns-in-Err

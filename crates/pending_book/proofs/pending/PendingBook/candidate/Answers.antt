@@ -18,8 +18,8 @@ returns g c =
       answer = λ (o : SoundBook stock b) (low : s ≤ 15).
           let xs = shelf_of (stock.meaning b.below) s in
           let bag = ((stock.lawful b.below o.below).bags s).0 in
-          let y = c.next-row-pending.result in
+          let y = c.next_row-pending.result in
           let is = c.earlier.ensures ∙ ap (λ a. earlier_of a y) (c.next-below.ensures.answer o.below) in
           subst (IsCandidate (λ q. count xs q) (λ q. count_at b.pending s q) r) (sym is)
-          (is_earlier (λ q. count xs q) (λ q. count_at b.pending s q) r (next xs r) y (after_is_next xs r (next xs r) (next_is_after xs r bag)) (c.next-row-pending.ensures.answer o.ordered));
+          (is_earlier (λ q. count xs q) (λ q. count_at b.pending s q) r (next xs r) y (after_is_next xs r (next xs r) (next_is_after xs r bag)) (c.next_row-pending.ensures.answer o.ordered));
     }

@@ -14,8 +14,8 @@ lacking : (b : Bool) → true ≡ not b → b ≡ false
 lacking true h = let z : ◌≡◌ {A = ℕ} 0 1 = cc in absurd (omega arith)
 lacking false h = refl
 
-pub returns-then-lacks-place : goal.returns-then-lacks-place
-returns-then-lacks-place g c =
+pub returns-then-lacks_place : goal.returns-then-lacks_place
+returns-then-lacks_place g c =
     let stock = g.S.Stock in
     let b = c.args.self.now in
     let k = key_of c.args.line.now in
@@ -27,19 +27,19 @@ returns-then-lacks-place g c =
             sound = d.sound;
             same = d.same;
             place = subst (λ qs. has_place (map keyed qs) k ≡ true) (sym d.empty) (ap (λ z. not (is_zero z) || true) (count_none k));
-            kept = λ h. absurd (unless_both (has_place (changes b.pending) k) h (lacking (has_place (changes b.pending) k) (c.if-lacks-place.ensures.answer o.ordered)));
+            kept = λ h. absurd (unless_both (has_place (changes b.pending) k) h (lacking (has_place (changes b.pending) k) (c.if-lacks_place.ensures.answer o.ordered)));
             settled = λ h. d;
           };
     }
 
-pub returns-else-lacks-place : goal.returns-else-lacks-place
-returns-else-lacks-place g c =
+pub returns-else-lacks_place : goal.returns-else-lacks_place
+returns-else-lacks_place g c =
     let stock = g.S.Stock in
     let b = c.args.self.now in
     let k = key_of c.args.line.now in
     record {
       memory = refl;
       after = λ (o : SoundBook stock b).
-          let place = unless (has_place (changes b.pending) k) (c.if-lacks-place.ensures.answer o.ordered) in
+          let place = unless (has_place (changes b.pending) k) (c.if-lacks_place.ensures.answer o.ordered) in
           record { sound = o; same = refl; place = place; kept = λ h. refl; settled = λ h. absurd (unless_both (has_place (changes b.pending) k) place h) };
     }

@@ -38,8 +38,8 @@ loop-turn-init g c =
     let start = walk_start (changes b.pending) (key c.args.shelf c.args.row.now) in
     (refl, omega (arith, few, long, front, start))
 
-pub returns-in-default : goal.returns-in-default
-returns-in-default g c =
+pub returns-in_default : goal.returns-in_default
+returns-in_default g c =
     let stock = g.S.Stock in
     let b = c.args.self.now in
     let s = c.args.shelf in
@@ -50,7 +50,7 @@ returns-in-default g c =
     record {
       answer = λ (o : SoundBook stock b).
           let sums : (q : Row) → count xs q ≡ f q +ℤ k q = λ q. let six = (stock.lawful b.below o.below).sixteen in count_sum (stock.meaning b.below) (held b.pending) s q (omega (arith, six)) in
-          let h = c.in-default.ensures.answer o low in
+          let h = c.in_default.ensures.answer o low in
           sym (ap (option_map row_and_count) ((c.loop-turn.invariant o).0 ∙ walk_end xs (o.lawful.bags s).0 f k sums c.loop-turn.at h));
     }
 
@@ -68,9 +68,9 @@ returns-then-n-gt0 g c =
       answer = λ (o : SoundBook stock b).
           let sums : (q : Row) → count xs q ≡ f q +ℤ k q = λ q. let six = (stock.lawful b.below o.below).sixteen in count_sum (stock.meaning b.below) (held b.pending) s q (omega (arith, six)) in
           let h = c.in-Some.ensures.answer o low in
-          let n = c.sum-at-n.ensures o in
+          let n = c.sum_at-n.ensures o in
           let are = copies_are (meaning_of stock b) o.lawful s p in
-          let some = some-count (count xs p) c.sum-at-n.result (ap pos n ∙ are) c.if-n-gt0.true in
+          let some = some-count (count xs p) c.sum_at-n.result (ap pos n ∙ are) c.if-n-gt0.true in
           let found = (c.loop-turn.invariant o).0 ∙ walk_found xs (o.lawful.bags s).0 f k sums c.loop-turn.at p h some in
           let pair : ℕ → Option (Row × ℕ) = λ m. Some (p, m) in
           ap pair n ∙ sym (ap (option_map row_and_count) found);
@@ -90,7 +90,7 @@ loop-turn-preserved g c =
     λ (o : SoundBook stock b).
     let sums : (q : Row) → count xs q ≡ f q +ℤ k q = λ q. let six = (stock.lawful b.below o.below).sixteen in count_sum (stock.meaning b.below) (held b.pending) s q (omega (arith, six)) in
     let h = c.in-Some.ensures.answer o low in
-    let n = c.sum-at-n.ensures o in
+    let n = c.sum_at-n.ensures o in
     let left = c.if-n-gt0.false in
     let are = copies_are (meaning_of stock b) o.lawful s p in
     let none : count xs p ≡ pos 0 = sym are ∙ ap pos (let m : copies (meaning_of stock b) s p ≡ 0 = omega (arith, n, left) in m) in

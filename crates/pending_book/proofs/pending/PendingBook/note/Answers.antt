@@ -15,13 +15,13 @@ pub returns : goal.returns
 returns g c =
     let stock = g.S.Stock in
     let b = c.args.self.now in
-    let d = c.make-place.new.self in
+    let d = c.make_place.new.self in
     let p = c.args.line.now in
     let qs = held c.add.new.self in
     record {
-      memory = c.make-place.ensures.memory;
+      memory = c.make_place.ensures.memory;
       after = λ (o : SoundBook stock b) (a : Accepts (meaning_of stock b) p) (n : c.args.lines ≡ lines_of (with_change_of (meaning_of stock b) p)).
-          let placed = c.make-place.ensures.after o in
+          let placed = c.make_place.ensures.after o in
           let s = placed.sound in
           let h = stock.meaning d.below in
           let ps = held d.pending in

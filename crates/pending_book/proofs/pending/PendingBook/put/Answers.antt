@@ -23,8 +23,8 @@ returns-then-n-eq0 g c =
     record {
       memory = refl;
       sound = λ o. o;
-      answer = λ (o : SoundBook stock b). let is = c.sum-at-old.ensures o in sym (put_ok M s r n low (omega (arith, is)) (room_none M s r n none));
-      after = λ (o : SoundBook stock b). let is = c.sum-at-old.ensures o in sym (accepted_put M s r n low (omega (arith, is)) (room_none M s r n none) ∙ ap (λ m. with_copies M s r (pos m)) none ∙ no_copies M s r o.lawful);
+      answer = λ (o : SoundBook stock b). let is = c.sum_at-old.ensures o in sym (put_ok M s r n low (omega (arith, is)) (room_none M s r n none));
+      after = λ (o : SoundBook stock b). let is = c.sum_at-old.ensures o in sym (accepted_put M s r n low (omega (arith, is)) (room_none M s r n none) ∙ ap (λ m. with_copies M s r (pos m)) none ∙ no_copies M s r o.lawful);
       below = λ (o : SoundBook stock b). after_nothing stock b (gain_of s r n) _ (ap pos none);
     }
 
@@ -38,20 +38,20 @@ returns-then-old-gt0 g c =
     let some : 0 < n = omega arith in
     let low : s ≤ 15 = omega arith in
     let M = meaning_of stock b in
-    let line = c.gain-line.ensures in
+    let line = c.gain_line.ensures in
     let noted = λ (o : SoundBook stock b).
-    let is = c.sum-at-old.ensures o in
+    let is = c.sum_at-old.ensures o in
     let kept = lines_kept M s r n o.lawful low some (omega (arith, is)) in
     let room = o.lawful.room in
     c.note.ensures.after o
-    (subst (Accepts M) (sym line) (accepts_gain M s r n o.lawful low some c.read-columns.ensures (omega (arith, is)) (omega (arith, kept, room))))
+    (subst (Accepts M) (sym line) (accepts_gain M s r n o.lawful low some c.read_columns.ensures (omega (arith, is)) (omega (arith, kept, room))))
     (o.counted ∙ sym kept ∙ ap (λ (p : PendingLine). lines_of (with_change_of M p)) (sym line)) in
     record {
       memory = c.note.ensures.memory;
       sound = λ (o : SoundBook stock b). (noted o).sound;
-      answer = λ (o : SoundBook stock b). let is = c.sum-at-old.ensures o in sym (put_ok M s r n low (omega (arith, is)) (room_present M s r n (omega (arith, is))));
-      after = λ (o : SoundBook stock b). let is = c.sum-at-old.ensures o in (noted o).after ∙ ap (with_change_of M) line ∙ sym (accepted_put M s r n low (omega (arith, is)) (room_present M s r n (omega (arith, is))));
-      below = λ (o : SoundBook stock b). after_change stock b (gain_of s r n) c.gain-line.result line (some_gain n some) (noted o);
+      answer = λ (o : SoundBook stock b). let is = c.sum_at-old.ensures o in sym (put_ok M s r n low (omega (arith, is)) (room_present M s r n (omega (arith, is))));
+      after = λ (o : SoundBook stock b). let is = c.sum_at-old.ensures o in (noted o).after ∙ ap (with_change_of M) line ∙ sym (accepted_put M s r n low (omega (arith, is)) (room_present M s r n (omega (arith, is))));
+      below = λ (o : SoundBook stock b). after_change stock b (gain_of s r n) c.gain_line.result line (some_gain n some) (noted o);
     }
 
 pub returns-then-lines-capacity : goal.returns-then-lines-capacity
@@ -65,7 +65,7 @@ returns-then-lines-capacity g c =
     let low : s ≤ 15 = omega arith in
     let M = meaning_of stock b in
     let answer = λ (o : SoundBook stock b).
-    let is = c.sum-at-old.ensures o in
+    let is = c.sum_at-old.ensures o in
     let room = o.lawful.room in
     let counted = o.counted in
     let cap = c.capacity-capacity.ensures.answer o.below ∙ sym (capacity_sum (stock.meaning b.below) (held b.pending)) in
@@ -88,23 +88,23 @@ returns g c =
     let some : 0 < n = omega arith in
     let low : s ≤ 15 = omega arith in
     let M = meaning_of stock b in
-    let line = c.gain-line-2.ensures in
+    let line = c.gain_line-2.ensures in
     let free = λ (o : SoundBook stock b).
     let cap = c.capacity-capacity.ensures.answer o.below ∙ sym (capacity_sum (stock.meaning b.below) (held b.pending)) in
     let counted = o.counted in
     let f : lines_of M < M.capacity = omega (arith, cap, counted) in
     f in
     let noted = λ (o : SoundBook stock b).
-    let is = c.sum-at-old.ensures o in
+    let is = c.sum_at-old.ensures o in
     let more = lines_more M s r n o.lawful low some (omega (arith, is)) in
     let room = free o in
     c.note-2.ensures.after o
-    (subst (Accepts M) (sym line) (accepts_gain M s r n o.lawful low some c.read-columns.ensures (omega (arith, is)) (omega (arith, more, room))))
+    (subst (Accepts M) (sym line) (accepts_gain M s r n o.lawful low some c.read_columns.ensures (omega (arith, is)) (omega (arith, more, room))))
     (ap (λ m. m + 1) o.counted ∙ sym more ∙ ap (λ (p : PendingLine). lines_of (with_change_of M p)) (sym line)) in
     record {
       memory = c.note-2.ensures.memory;
       sound = λ (o : SoundBook stock b). (noted o).sound;
-      answer = λ (o : SoundBook stock b). let is = c.sum-at-old.ensures o in sym (put_ok M s r n low (omega (arith, is)) (room_free M s r n (free o)));
-      after = λ (o : SoundBook stock b). let is = c.sum-at-old.ensures o in (noted o).after ∙ ap (with_change_of M) line ∙ sym (accepted_put M s r n low (omega (arith, is)) (room_free M s r n (free o)));
-      below = λ (o : SoundBook stock b). after_change stock b (gain_of s r n) c.gain-line-2.result line (some_gain n some) (noted o);
+      answer = λ (o : SoundBook stock b). let is = c.sum_at-old.ensures o in sym (put_ok M s r n low (omega (arith, is)) (room_free M s r n (free o)));
+      after = λ (o : SoundBook stock b). let is = c.sum_at-old.ensures o in (noted o).after ∙ ap (with_change_of M) line ∙ sym (accepted_put M s r n low (omega (arith, is)) (room_free M s r n (free o)));
+      below = λ (o : SoundBook stock b). after_change stock b (gain_of s r n) c.gain_line-2.result line (some_gain n some) (noted o);
     }

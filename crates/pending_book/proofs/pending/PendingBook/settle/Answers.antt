@@ -11,19 +11,19 @@ unfolding sum_of
 returns g c =
     let stock = g.S.Stock in
     let b = c.args.self.now in
-    let mid = c.take-all.new.below in
-    let end = c.put-all.new.below in
+    let mid = c.take_all.new.below in
+    let end = c.put_all.new.below in
     let empty = c.new-self.ensures.empty in
     record {
-      memory = c.put-all.ensures.memory ∙ c.take-all.ensures.memory;
+      memory = c.put_all.ensures.memory ∙ c.take_all.ensures.memory;
       after = λ (o : SoundBook stock b).
           let h = stock.meaning b.below in
           let ps = held b.pending in
           let law = stock.lawful b.below o.below in
-          let sound-mid = c.take-all.ensures.sound o.below in
-          let sound-end = c.put-all.ensures.sound sound-mid in
-          let took = c.take-all.ensures.after o.below (takeable_from h ps law o.lawful o.ordered.canonical o.shelves) in
-          let gave = c.put-all.ensures.after (sum_of h ps) sound-mid (puttable_from h ps law o.lawful o.ordered.canonical o.shelves (stock.meaning mid) took) in
+          let sound-mid = c.take_all.ensures.sound o.below in
+          let sound-end = c.put_all.ensures.sound sound-mid in
+          let took = c.take_all.ensures.after o.below (takeable_from h ps law o.lawful o.ordered.canonical o.shelves) in
+          let gave = c.put_all.ensures.after (sum_of h ps) sound-mid (puttable_from h ps law o.lawful o.ordered.canonical o.shelves (stock.meaning mid) took) in
           let there = arrived h ps law o.lawful o.ordered.canonical o.shelves (stock.meaning mid) (stock.meaning end) took gave (stock.lawful end sound-end) in
           let same : sum_of (stock.meaning end) (held c.new-self.result) ≡ sum_of h ps = ap (sum_of (stock.meaning end)) empty ∙ there in
           record {

@@ -30,5 +30,5 @@ returns g c =
     let low : s ≤ 15 = omega arith in
     let e = copies_sum h (held b.pending) (stock.lawful b.below o.below) o.lawful s low r in
     let f = sum_is_count h (held b.pending) (stock.lawful b.below o.below) o.lawful s low r in
-    let v = c.added-to.ensures.answer o.ordered (subst (λ m. IsCount (pos m +ℤ count_at b.pending s r)) (sym n) f) in
+    let v = c.added_to.ensures.answer o.ordered (subst (λ m. IsCount (pos m +ℤ count_at b.pending s r)) (sym n) f) in
     omega (arith, ints, n, e, v)

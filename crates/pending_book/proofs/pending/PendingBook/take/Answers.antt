@@ -20,8 +20,8 @@ returns-then-n-eq0 g c =
     record {
       memory = refl;
       sound = λ o. o;
-      answer = λ (o : SoundBook stock b). let is = c.sum-at-old.ensures o in sym (take_ok M s r n low (omega (arith, is)));
-      after = λ (o : SoundBook stock b). let is = c.sum-at-old.ensures o in sym (accepted_take M s r n low (omega (arith, is)) ∙ ap (λ m. with_copies M s r (neg_ℤ (pos m))) none ∙ no_copies M s r o.lawful);
+      answer = λ (o : SoundBook stock b). let is = c.sum_at-old.ensures o in sym (take_ok M s r n low (omega (arith, is)));
+      after = λ (o : SoundBook stock b). let is = c.sum_at-old.ensures o in sym (accepted_take M s r n low (omega (arith, is)) ∙ ap (λ m. with_copies M s r (neg_ℤ (pos m))) none ∙ no_copies M s r o.lawful);
       below = λ (o : SoundBook stock b). after_nothing stock b (loss_of s r n) _ (ap (λ m. neg_ℤ (pos m)) none);
     }
 
@@ -35,20 +35,20 @@ returns-then-old-n-2 g c =
     let some : 0 < n = omega arith in
     let low : s ≤ 15 = omega arith in
     let M = meaning_of stock b in
-    let line = c.loss-line.ensures in
+    let line = c.loss_line.ensures in
     let noted = λ (o : SoundBook stock b).
-    let is = c.sum-at-old.ensures o in
+    let is = c.sum_at-old.ensures o in
     let kept = lines_left M s r n o.lawful low some (omega (arith, is)) in
     let room = o.lawful.room in
     c.note.ensures.after o
-    (subst (Accepts M) (sym line) (accepts_loss M s r n o.lawful low some c.read-columns.ensures (omega (arith, is)) (omega (arith, kept, room))))
+    (subst (Accepts M) (sym line) (accepts_loss M s r n o.lawful low some c.read_columns.ensures (omega (arith, is)) (omega (arith, kept, room))))
     (o.counted ∙ sym kept ∙ ap (λ (p : PendingLine). lines_of (with_change_of M p)) (sym line)) in
     record {
       memory = c.note.ensures.memory;
       sound = λ (o : SoundBook stock b). (noted o).sound;
-      answer = λ (o : SoundBook stock b). let is = c.sum-at-old.ensures o in sym (take_ok M s r n low (omega (arith, is)));
-      after = λ (o : SoundBook stock b). let is = c.sum-at-old.ensures o in (noted o).after ∙ ap (with_change_of M) line ∙ sym (accepted_take M s r n low (omega (arith, is)));
-      below = λ (o : SoundBook stock b). after_change stock b (loss_of s r n) c.loss-line.result line (some_loss n some) (noted o);
+      answer = λ (o : SoundBook stock b). let is = c.sum_at-old.ensures o in sym (take_ok M s r n low (omega (arith, is)));
+      after = λ (o : SoundBook stock b). let is = c.sum_at-old.ensures o in (noted o).after ∙ ap (with_change_of M) line ∙ sym (accepted_take M s r n low (omega (arith, is)));
+      below = λ (o : SoundBook stock b). after_change stock b (loss_of s r n) c.loss_line.result line (some_loss n some) (noted o);
     }
 
 pub returns : goal.returns
@@ -61,20 +61,20 @@ returns g c =
     let some : 0 < n = omega arith in
     let low : s ≤ 15 = omega arith in
     let M = meaning_of stock b in
-    let line = c.loss-line-2.ensures in
+    let line = c.loss_line-2.ensures in
     let noted = λ (o : SoundBook stock b).
-    let is = c.sum-at-old.ensures o in
+    let is = c.sum_at-old.ensures o in
     let less = lines_less M s r n o.lawful low some (omega (arith, is)) in
     let room = o.lawful.room in
     let counted = o.counted in
-    let down = c.saturating-sub.ensures in
+    let down = c.saturating_sub.ensures in
     c.note-2.ensures.after o
-    (subst (Accepts M) (sym line) (accepts_loss M s r n o.lawful low some c.read-columns.ensures (omega (arith, is)) (omega (arith, less, room))))
-    (let q : c.saturating-sub.result ≡ lines_of (with_copies M s r (neg_ℤ (pos n))) = omega (arith, less, counted, down) in q ∙ ap (λ (p : PendingLine). lines_of (with_change_of M p)) (sym line)) in
+    (subst (Accepts M) (sym line) (accepts_loss M s r n o.lawful low some c.read_columns.ensures (omega (arith, is)) (omega (arith, less, room))))
+    (let q : c.saturating_sub.result ≡ lines_of (with_copies M s r (neg_ℤ (pos n))) = omega (arith, less, counted, down) in q ∙ ap (λ (p : PendingLine). lines_of (with_change_of M p)) (sym line)) in
     record {
       memory = c.note-2.ensures.memory;
       sound = λ (o : SoundBook stock b). (noted o).sound;
-      answer = λ (o : SoundBook stock b). let is = c.sum-at-old.ensures o in sym (take_ok M s r n low (omega (arith, is)));
-      after = λ (o : SoundBook stock b). let is = c.sum-at-old.ensures o in (noted o).after ∙ ap (with_change_of M) line ∙ sym (accepted_take M s r n low (omega (arith, is)));
-      below = λ (o : SoundBook stock b). after_change stock b (loss_of s r n) c.loss-line-2.result line (some_loss n some) (noted o);
+      answer = λ (o : SoundBook stock b). let is = c.sum_at-old.ensures o in sym (take_ok M s r n low (omega (arith, is)));
+      after = λ (o : SoundBook stock b). let is = c.sum_at-old.ensures o in (noted o).after ∙ ap (with_change_of M) line ∙ sym (accepted_take M s r n low (omega (arith, is)));
+      below = λ (o : SoundBook stock b). after_change stock b (loss_of s r n) c.loss_line-2.result line (some_loss n some) (noted o);
     }

@@ -13,6 +13,6 @@ returns-else-self-shelf-2 c = sym (key_greater c.args.self.now.shelf c.args.shel
 pub returns : goal.returns
 returns c =
     let same : c.args.self.now.shelf ≡ c.args.shelf = omega arith in
-    c.compare-rows.ensures
+    c.compare_rows.ensures
     ∙ sym (key_same c.args.self.now.shelf c.args.self.now.row c.args.row.now)
     ∙ ap (λ s. row_order (key c.args.self.now.shelf c.args.self.now.row) (key s c.args.row.now)) same

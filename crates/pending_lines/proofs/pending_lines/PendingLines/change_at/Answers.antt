@@ -5,8 +5,8 @@ use Rattle.pending_lines.specs.PendingLines.{key, keyed, blank_line, no_line, he
 use Rattle.pending_lines.proofs.PendingEdits.{map_removed, take_set_inside, changed_gone, changed_kept}
 use Rattle.pending_lines.proofs.pending_lines.PendingLines.change_at.Goals as goal
 
-pub returns-then-is-done : goal.returns-then-is-done
-returns-then-is-done c =
+pub returns-then-is_done : goal.returns-then-is_done
+returns-then-is_done c =
     let p = c.args.self.now in
     let i = c.args.place in
     let n = c.args.more.now.change in
@@ -16,17 +16,17 @@ returns-then-is-done c =
     record {
       few = λ h. c.remove.ensures.few;
       after = λ (f : SFits w32 (n +ℤ (get_or (changes p) i no_line).1)).
-          let made = c.changed-by-line.ensures.change (subst (λ (e : Line). SFits w32 (n +ℤ e.1)) read f) in
-          let gone : is_zero (n +ℤ (get_or (changes p) i no_line).1) ≡ true = ap (λ (e : Line). is_zero (n +ℤ e.1)) read ∙ ap is_zero (sym made) ∙ sym c.is-done.ensures ∙ c.if-is-done.true in
+          let made = c.changed_by-line.ensures.change (subst (λ (e : Line). SFits w32 (n +ℤ e.1)) read f) in
+          let gone : is_zero (n +ℤ (get_or (changes p) i no_line).1) ≡ true = ap (λ (e : Line). is_zero (n +ℤ e.1)) read ∙ ap is_zero (sym made) ∙ sym c.is_done.ensures ∙ c.if-is_done.true in
           ap (map keyed) c.remove.ensures.after ∙ map_removed keyed (held p) i ∙ changed_gone (changes p) i n gone;
     }
 
-pub returns-else-is-done : goal.returns-else-is-done
-returns-else-is-done c =
+pub returns-else-is_done : goal.returns-else-is_done
+returns-else-is_done c =
     let p = c.args.self.now in
     let i = c.args.place in
     let n = c.args.more.now.change in
-    let line = c.changed-by-line.result in
+    let line = c.changed_by-line.result in
     let pre = c.requires in
     let long = length-take p.len p.lines in
     let longer = length-map (held p) keyed in
@@ -34,10 +34,10 @@ returns-else-is-done c =
     record {
       few = λ h. h;
       after = λ (f : SFits w32 (n +ℤ (get_or (changes p) i no_line).1)).
-          let made = c.changed-by-line.ensures.change (subst (λ (e : Line). SFits w32 (n +ℤ e.1)) read f) in
+          let made = c.changed_by-line.ensures.change (subst (λ (e : Line). SFits w32 (n +ℤ e.1)) read f) in
           ap (map keyed) (take_set_inside p.len p.lines i line (omega arith)) ∙ map-set keyed (held p) i line
           ∙ changed_kept (changes p) i n (keyed line) (omega arith)
-          (ap₂ key c.changed-by-line.ensures.shelf c.changed-by-line.ensures.row ∙ ap (λ (e : Line). e.0) (sym read))
+          (ap₂ key c.changed_by-line.ensures.shelf c.changed_by-line.ensures.row ∙ ap (λ (e : Line). e.0) (sym read))
           (made ∙ ap (λ (e : Line). n +ℤ e.1) (sym read))
-          (sym c.is-done.ensures ∙ c.if-is-done.false);
+          (sym c.is_done.ensures ∙ c.if-is_done.false);
     }

@@ -20,11 +20,11 @@ returns c =
     let ls = c.entries-lines.result.now in
     let same = c.entries-lines.ensures.answer in
     let k = key c.args.shelf c.args.row.now in
-    let i = c.place-of-place.result in
+    let i = c.place_of-place.result in
     let long = length-map ls keyed in
-    let w = c.place-of-place.ensures.within in
-    let found = c.has-key-found.ensures in
-    let at = λ (o : Ordered p). c.place-of-place.ensures.answer (subst (λ t. Canonical (map keyed t)) (sym same) o.canonical) ∙ ap (λ t. rank (map keyed t) k) same in
+    let w = c.place_of-place.ensures.within in
+    let found = c.has_key-found.ensures in
+    let at = λ (o : Ordered p). c.place_of-place.ensures.answer (subst (λ t. Canonical (map keyed t)) (sym same) o.canonical) ∙ ap (λ t. rank (map keyed t) k) same in
     record {
       few = subst (λ t. length t ≤ 64) same c.entries-lines.ensures.within;
       within = subst (λ t. i ≤ length t) same w;

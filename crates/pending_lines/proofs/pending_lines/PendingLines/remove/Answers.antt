@@ -11,10 +11,10 @@ returns c =
     let n = c.len-len.result in
     let counted = c.len-len.ensures.answer in
     let few = c.len-len.ensures.within in
-    let long = c.remove-at.ensures.long in
+    let long = c.remove_at.ensures.long in
     let pre = c.requires in
     let same : take n run ≡ held p = ap (λ j. take j run) counted ∙ front_again p.len run in
     record {
       few = omega arith;
-      after = ap (take (n - 1)) c.remove-at.ensures.after ∙ front_closed run i n blank_line (omega arith) (omega arith) ∙ ap (λ t. take i t ++ drop (suc i) t) same;
+      after = ap (take (n - 1)) c.remove_at.ensures.after ∙ front_closed run i n blank_line (omega arith) (omega arith) ∙ ap (λ t. take i t ++ drop (suc i) t) same;
     }

@@ -15,7 +15,7 @@ returns-then-place-sheet c = λ (room used : ℕ) (es more : List ChangeLine) (k
     let long = run_long es c.args.self.now.from c.args.self.now.to k d r in
     let a = r.inside in
     let s = o.small in
-    let at : c.saturating-add-place.result ≡ c.args.self.now.from + c.args.i = omega (arith, c.saturating-add-place.ensures) in
+    let at : c.saturating_add-place.result ≡ c.args.self.now.from + c.args.i = omega (arith, c.saturating_add-place.ensures) in
     ap (λ n. get_or c.args.sheet.now n no_line) at ∙ read_run room c.args.sheet.now used es more c.args.self.now.from c.args.self.now.to k d c.args.i no_line e o f r h
 
 pub returns-else-place-sheet : goal.returns-else-place-sheet
@@ -25,4 +25,4 @@ returns-else-place-sheet c = λ (room used : ℕ) (es more : List ChangeLine) (k
     let a = r.inside in
     let s = o.small in
     let w = o.within in
-    absurd (let z : ⊥ = omega (arith, c.saturating-add-place.ensures, c.if-place-sheet.false) in z)
+    absurd (let z : ⊥ = omega (arith, c.saturating_add-place.ensures, c.if-place-sheet.false) in z)

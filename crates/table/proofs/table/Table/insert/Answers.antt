@@ -5,16 +5,16 @@ use Rattle.table.specs.Tables.{Sound, items, capacity}
 use Rattle.table.proofs.Kept.{add_inserts, sound_with, holds_from_sound, accepts_room, refuses_full, unchanged}
 use Rattle.table.proofs.table.Table.insert.Goals as goal
 
-pub insert-at-requires : goal.insert-at-requires
-insert-at-requires g c =
+pub insert_at-requires : goal.insert_at-requires
+insert_at-requires g c =
     let l = length-take c.args.self.now.len c.args.self.now.run.now in
     let n = c.len-len.ensures.answer in
     let p = c.requires in
     let full = c.if-len-self.false in
     (omega arith, omega arith)
 
-pub overflow-add-self : goal.overflow-add-self
-overflow-add-self g c =
+pub overflow_add-self : goal.overflow_add-self
+overflow_add-self g c =
     let l = length-take c.args.self.now.len c.args.self.now.run.now in
     let n = c.len-len.ensures.answer in
     let full = c.if-len-self.false in
@@ -48,15 +48,15 @@ returns g c =
     let k = c.args.entry in
     let i = c.args.place in
     let n = c.len-len.result in
-    let after = c.insert-at.new.run in
+    let after = c.insert_at.new.run in
     let S = Sound order blank t in
     let Q = place_of order k (items t) ≡ None in
     let P = i ≡ smaller order k (items t) in
     let counted = c.len-len.ensures.answer in
     let room = c.if-len-self.false in
-    let holds = λ (s : S) (q : Q) (p : P). add_inserts law blank t.run.now t.len s k i n after q p counted room c.insert-at.ensures in
+    let holds = λ (s : S) (q : Q) (p : P). add_inserts law blank t.run.now t.len s k i n after q p counted room c.insert_at.ensures in
     record {
-      same = record { lender = refl {a = t.run.name}; long = c.insert-at.auto.run };
+      same = record { lender = refl {a = t.run.name}; long = c.insert_at.auto.run };
       sound = λ (s : S) (q : Q) (p : P). sound_with law blank t.run.now t.len s k after (n + 1) (holds s q p);
       answer = λ (s : S) (q : Q). accepts_room law (capacity t) k (items t) s.ascending q (λ h. room (counted ∙ h));
       after = holds;

@@ -8,8 +8,8 @@ use Rattle.table.proofs.table.Table.replace.Goals as goal
 pub bounds-self-place : goal.bounds-self-place
 bounds-self-place g c = let l = length-take c.args.self.now.len c.args.self.now.run.now in let p = c.requires in omega arith
 
-pub offset-bounds-self-place : goal.offset-bounds-self-place
-offset-bounds-self-place g c =
+pub offset_bounds-self-place : goal.offset_bounds-self-place
+offset_bounds-self-place g c =
     let l = length-take c.args.self.now.len c.args.self.now.run.now in
     let p = c.requires in
     let within : c.args.place < length c.args.self.now.run.now = omega arith in
