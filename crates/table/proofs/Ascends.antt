@@ -4,7 +4,7 @@ use Rattle.std.proofs.Common.{◌≡◌, Bool, true, false, cond, List, [], ◌�
 use Rattle.std.specs.List.{AllByRecursion}
 use Rattle.std.specs.Ordering.{ordering_reverse}
 use Rattle.std.specs.List.Sorted.{IsStrictlySortedBy}
-use Rattle.std.proofs.lemmas.Map.Invariant.{sorted-from-test, test-from-sorted}
+use Rattle.table.proofs.SortedTests.{sorted_from_test, test_from_sorted}
 use Rattle.table.specs.Order.{Lawful, by_order, same_key}
 use Rattle.table.specs.Entries.{Ascending, with_entry, without_key}
 
@@ -52,7 +52,7 @@ module _ {E : Type 0} (order : E → E → Ordering) where
   sorted_without k (x ∷ xs) s = sorted_without_by k x xs (same_key order k x) s (sorted_without k xs s.1)
 
   pub ascending_with : Lawful order → (e : E) (xs : List E) → Ascending order xs → Ascending order (with_entry order e xs)
-  ascending_with law e xs up = test-from-sorted order (with_entry order e xs) (sorted_with law e xs (sorted-from-test order xs up))
+  ascending_with law e xs up = test_from_sorted order (with_entry order e xs) (sorted_with law e xs (sorted_from_test order xs up))
 
   pub ascending_without : (k : E) (xs : List E) → Ascending order xs → Ascending order (without_key order k xs)
-  ascending_without k xs up = test-from-sorted order (without_key order k xs) (sorted_without k xs (sorted-from-test order xs up))
+  ascending_without k xs up = test_from_sorted order (without_key order k xs) (sorted_without k xs (sorted_from_test order xs up))

@@ -1,3 +1,4 @@
+pub mod SortedTests
 pub mod Located
 pub mod Ascends
 pub mod Lookups

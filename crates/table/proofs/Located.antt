@@ -7,7 +7,7 @@ use Rattle.std.proofs.Common.{◌≡◌, ℕ, zero, suc, ◌+◌, ◌<◌, ◌�
 use Rattle.std.specs.Ordering.{ordering_reverse}
 use Rattle.std.specs.List.Sorted.{IsStrictlySortedBy}
 use Rattle.std.proofs.lemmas.Map.Keys.{Less-from_sorted}
-use Rattle.std.proofs.lemmas.Map.Invariant.{sorted-from-test, test-from-sorted}
+use Rattle.table.proofs.SortedTests.{sorted_from_test, test_from_sorted}
 use Rattle.std.proofs.lemmas.List.{get_or_read}
 use Rattle.std.proofs.lemmas.Bool.{cases_eq}
 use Rattle.table.specs.Order.{Lawful}
@@ -103,7 +103,7 @@ compared order k xs i x o lt read h = sym (h ∙ ap (order k) (get_or_read xs i 
 -- a comparison with one entry of an ascending list says how the key stands to others
 module _ {E : Type 0} {order : E → E → Ordering} (law : Lawful order) (k : E) (xs : List E) (up : Ascending order xs) where
   sorted : IsStrictlySortedBy order xs
-  sorted = sorted-from-test order xs up
+  sorted = sorted_from_test order xs up
 
   flipped : (x y : E) (o : Ordering) → order x y ≡ o → order y x ≡ ordering_reverse o
   flipped x y o h = law.turned y x ∙ ap ordering_reverse h
@@ -134,7 +134,7 @@ module _ {E : Type 0} {order : E → E → Ordering} (law : Lawful order) (k : E
 module _ {E : Type 0} (order : E → E → Ordering) where
   pub ascending_tail : (x : E) (xs : List E) → Ascending order (x ∷ xs) → Ascending order xs
   unfolding IsStrictlySortedBy
-  ascending_tail x xs up = test-from-sorted order xs (sorted-from-test order (x ∷ xs) up).1
+  ascending_tail x xs up = test_from_sorted order xs (sorted_from_test order (x ∷ xs) up).1
 
   abbrev pub Located : E → List E → Type 0
   Located k xs = ((i : ℕ) × PresentAt order k xs i) ⊎ ((i : ℕ) × AbsentAt order k xs i)

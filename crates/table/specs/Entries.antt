@@ -1,5 +1,6 @@
 -- What a table means: a list of entries whose keys ascend, and what looking up, adding and removing make of it. Assumes nothing.
 --     Ascending order xs       each key is less than those after it
+--     is_strictly_sorted_by order xs      the same as a test
 --     has_key order k xs       some entry has k's key
 --     entry_of order k xs      the entry that has k's key
 --     place_of order k xs      where that entry stands
@@ -7,16 +8,21 @@
 --     first_after order k xs   the first entry with a greater key than k, or none
 --     with_entry order e xs    e in the place of the entry with e's key, or before the first entry with a greater key
 --     without_key order k xs   the other entries, where one has k's key
-use Rattle.std.specs.Prelude.{ℕ, suc, Bool, true, false, cond, T, List, [], ◌∷◌, Some, None, Option}
+use Rattle.std.specs.Prelude.{ℕ, suc, Bool, true, false, ◌&&◌, cond, T, List, [], ◌∷◌, Some, None, Option}
 use Rattle.std.specs.declared.cmp.Ordering.{Ordering}
+use Rattle.std.specs.Ordering.{is_lt}
 use Rattle.std.specs.Option.{option_map}
-use Rattle.std.specs.Map.Invariant.{is-strictly-sorted-by}
+use Rattle.std.specs.List.{list_all}
 use Rattle.table.specs.Order.{by_order, same_key}
 
 module _ {E : Type 0} (order : E → E → Ordering) where
+  abbrev pub is_strictly_sorted_by : List E → Bool
+  is_strictly_sorted_by [] = true
+  is_strictly_sorted_by (x ∷ xs) = list_all (λ y. is_lt (order x y)) xs && is_strictly_sorted_by xs
+
   -- as a test, so that there is one proof of it at most and a struct can hold it
   abbrev pub Ascending : List E → Type 0
-  Ascending xs = T (is-strictly-sorted-by order xs)
+  Ascending xs = T (is_strictly_sorted_by xs)
 
   abbrev pub has_key : E → List E → Bool
   has_key k [] = false

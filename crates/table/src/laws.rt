@@ -5,7 +5,7 @@ use crate::entry::Entry;
 // Looking up after adding and removing, for every kind of entry. A theorem is demanded only where a contract names it, so this
 // function names it; the number that it answers says nothing.
 pub fn lookup_laws<E: Entry>() -> u8
-    ensures { LookupLaws order }
+    ensures { LookupLaws E.order }
 {
     0
 }

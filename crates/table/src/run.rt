@@ -22,7 +22,7 @@ pub(crate) fn item_at<E: Entry>(entries: &[E], place: usize) -> Option<E>
 
 // Blanks every place of a run.
 pub(crate) fn blank_all<E: Entry>(run: &mut [E])
-    ensures { run.new ≡ replicate (length run.old) blank }
+    ensures { run.new ≡ replicate (length run.old) E.blank }
 {
     for place in run.iter_mut() {
         *place = E::blank();
@@ -41,7 +41,7 @@ pub(crate) fn insert_at<E: Entry>(run: &mut [E], place: usize, len: usize, item:
 // Moves the entries past `place` up to `len` one place down, and blanks the place that the last one leaves.
 pub(crate) fn remove_at<E: Entry>(run: &mut [E], place: usize, len: usize)
     requires { (place < len) × (len ≤ length run.old) }
-    ensures { run.new ≡ closed run.old place len blank }
+    ensures { run.new ≡ closed run.old place len E.blank }
 {
     run.copy_within(place + 1..len, place);
     run[len - 1] = E::blank();

@@ -17,8 +17,8 @@ pub(crate) struct Lookup {
 pub(crate) fn search<E: Entry>(entries: &[E], key: &E) -> Lookup
     ensures within { result.place ≤ length entries.now }
     ensures inside { IfSome result.found (λ i. i < length entries.now) }
-    ensures place { Ascending order entries.now → result.place ≡ smaller order key.now entries.now }
-    ensures found { Ascending order entries.now → result.found ≡ place_of order key.now entries.now }
+    ensures place { Ascending E.order entries.now → result.place ≡ smaller E.order key.now entries.now }
+    ensures found { Ascending E.order entries.now → result.found ≡ place_of E.order key.now entries.now }
 {
     let mut low = 0;
     let mut high = entries.len();

@@ -24,8 +24,8 @@ impl<'a, E: Entry> Table<'a, E> {
     pub fn new(run: &'a mut [E]) -> Self
         ensures lender { result.run.ghost_name ≡ run.entry.ghost_name }
         ensures long { capacity result ≡ length run.old }
-        ensures after { Holds blank result [] }
-        ensures sound { Sound order blank result }
+        ensures after { Holds E.blank result [] }
+        ensures sound { Sound E.order E.blank result }
     {
         blank_all(run);
         Table { run, len: 0 }
@@ -63,14 +63,14 @@ impl<'a, E: Entry> Table<'a, E> {
     // The place of the entry that has the key of `key`, if there is one.
     pub fn find(&self, key: &E) -> Option<usize>
         ensures inside { IfSome result (λ i. i < length (items self.now)) }
-        ensures answer { Sound order blank self.now → result ≡ place_of order key.now (items self.now) }
+        ensures answer { Sound E.order E.blank self.now → result ≡ place_of E.order key.now (items self.now) }
     {
         self.look_up(key).found
     }
 
     // The first entry whose key is greater than the key of `key`, if there is one.
     pub fn after(&self, key: &E) -> Option<E>
-        ensures answer { Sound order blank self.now → result ≡ first_after order key.now (items self.now) }
+        ensures answer { Sound E.order E.blank self.now → result ≡ first_after E.order key.now (items self.now) }
     {
         let lookup = self.look_up(key);
         match lookup.found {
@@ -82,9 +82,9 @@ impl<'a, E: Entry> Table<'a, E> {
     // Replaces the entry that has the key of `entry`, or else puts `entry` into order.
     pub fn add(&mut self, entry: E) -> Result<(), Full>
         ensures same { SameRun self.old self.new }
-        ensures sound { Sound order blank self.old → Sound order blank self.new }
-        ensures answer { Sound order blank self.old → refusal_in result ≡ add_answer order (capacity self.old) entry (items self.old) }
-        ensures after { Sound order blank self.old → Holds blank self.new (left_by result (items self.old) (with_entry order entry (items self.old))) }
+        ensures sound { Sound E.order E.blank self.old → Sound E.order E.blank self.new }
+        ensures answer { Sound E.order E.blank self.old → refusal_in result ≡ add_answer E.order (capacity self.old) entry (items self.old) }
+        ensures after { Sound E.order E.blank self.old → Holds E.blank self.new (left_by result (items self.old) (with_entry E.order entry (items self.old))) }
         ensures refused { elim result [ Ok _ ↦ Unit {0} | Err _ ↦ self.new ≡ self.old ] }
     {
         let lookup = self.look_up(&entry);
@@ -100,9 +100,9 @@ impl<'a, E: Entry> Table<'a, E> {
     // Takes out the entry that has the key of `key`, if there is one.
     pub fn remove(&mut self, key: &E)
         ensures same { SameRun self.old self.new }
-        ensures sound { Sound order blank self.old → Sound order blank self.new }
-        ensures after { Sound order blank self.old → Holds blank self.new (without_key order key.now (items self.old)) }
-        ensures absent { Sound order blank self.old → place_of order key.now (items self.old) ≡ None → self.new ≡ self.old }
+        ensures sound { Sound E.order E.blank self.old → Sound E.order E.blank self.new }
+        ensures after { Sound E.order E.blank self.old → Holds E.blank self.new (without_key E.order key.now (items self.old)) }
+        ensures absent { Sound E.order E.blank self.old → place_of E.order key.now (items self.old) ≡ None → self.new ≡ self.old }
     {
         match self.find(key) {
             Some(place) => self.close(place),
@@ -114,8 +114,8 @@ impl<'a, E: Entry> Table<'a, E> {
     fn look_up(&self, key: &E) -> Lookup
         ensures within { result.place ≤ length (items self.now) }
         ensures inside { IfSome result.found (λ i. i < length (items self.now)) }
-        ensures place { Sound order blank self.now → result.place ≡ smaller order key.now (items self.now) }
-        ensures found { Sound order blank self.now → result.found ≡ place_of order key.now (items self.now) }
+        ensures place { Sound E.order E.blank self.now → result.place ≡ smaller E.order key.now (items self.now) }
+        ensures found { Sound E.order E.blank self.now → result.found ≡ place_of E.order key.now (items self.now) }
     {
         search(self.entries(), key)
     }
@@ -124,9 +124,9 @@ impl<'a, E: Entry> Table<'a, E> {
     fn replace(&mut self, place: usize, entry: E)
         requires { place < length (items self.old) }
         ensures same { SameRun self.old self.new }
-        ensures sound { Sound order blank self.old → place_of order entry (items self.old) ≡ Some place → Sound order blank self.new }
-        ensures after { Sound order blank self.old → place_of order entry (items self.old) ≡ Some place → Holds blank self.new (with_entry order entry (items self.old)) }
-        ensures room { Sound order blank self.old → place_of order entry (items self.old) ≡ Some place → None ≡ add_answer order (capacity self.old) entry (items self.old) }
+        ensures sound { Sound E.order E.blank self.old → place_of E.order entry (items self.old) ≡ Some place → Sound E.order E.blank self.new }
+        ensures after { Sound E.order E.blank self.old → place_of E.order entry (items self.old) ≡ Some place → Holds E.blank self.new (with_entry E.order entry (items self.old)) }
+        ensures room { Sound E.order E.blank self.old → place_of E.order entry (items self.old) ≡ Some place → None ≡ add_answer E.order (capacity self.old) entry (items self.old) }
     {
         self.run[place] = entry;
     }
@@ -135,9 +135,9 @@ impl<'a, E: Entry> Table<'a, E> {
     fn insert(&mut self, place: usize, entry: E) -> Result<(), Full>
         requires { place ≤ length (items self.old) }
         ensures same { SameRun self.old self.new }
-        ensures sound { Sound order blank self.old → place_of order entry (items self.old) ≡ None → place ≡ smaller order entry (items self.old) → Sound order blank self.new }
-        ensures answer { Sound order blank self.old → place_of order entry (items self.old) ≡ None → refusal_in result ≡ add_answer order (capacity self.old) entry (items self.old) }
-        ensures after { Sound order blank self.old → place_of order entry (items self.old) ≡ None → place ≡ smaller order entry (items self.old) → Holds blank self.new (left_by result (items self.old) (with_entry order entry (items self.old))) }
+        ensures sound { Sound E.order E.blank self.old → place_of E.order entry (items self.old) ≡ None → place ≡ smaller E.order entry (items self.old) → Sound E.order E.blank self.new }
+        ensures answer { Sound E.order E.blank self.old → place_of E.order entry (items self.old) ≡ None → refusal_in result ≡ add_answer E.order (capacity self.old) entry (items self.old) }
+        ensures after { Sound E.order E.blank self.old → place_of E.order entry (items self.old) ≡ None → place ≡ smaller E.order entry (items self.old) → Holds E.blank self.new (left_by result (items self.old) (with_entry E.order entry (items self.old))) }
         ensures refused { elim result [ Ok _ ↦ Unit {0} | Err _ ↦ self.new ≡ self.old ] }
     {
         let len = self.len();
@@ -153,8 +153,8 @@ impl<'a, E: Entry> Table<'a, E> {
     fn close(&mut self, place: usize)
         requires { place < length (items self.old) }
         ensures same { SameRun self.old self.new }
-        ensures sound { (key : E) → Sound order blank self.old → place_of order key (items self.old) ≡ Some place → Sound order blank self.new }
-        ensures after { (key : E) → Sound order blank self.old → place_of order key (items self.old) ≡ Some place → Holds blank self.new (without_key order key (items self.old)) }
+        ensures sound { (key : E) → Sound E.order E.blank self.old → place_of E.order key (items self.old) ≡ Some place → Sound E.order E.blank self.new }
+        ensures after { (key : E) → Sound E.order E.blank self.old → place_of E.order key (items self.old) ≡ Some place → Holds E.blank self.new (without_key E.order key (items self.old)) }
     {
         let len = self.len();
         remove_at(self.run, place, len);

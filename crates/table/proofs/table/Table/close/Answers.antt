@@ -21,7 +21,7 @@ returns g c =
     let after = c.remove_at.new.run in
     let S = Sound order blank t in
     record {
-      same = record { lender = refl {a = t.run.name}; long = c.remove_at.auto.run };
+      same = record { lender = refl {a = t.run.ghost_name}; long = c.remove_at.auto.run };
       sound = λ k (s : S) q. sound_without law blank t.run.now t.len s k after (n - 1) (remove_closes law blank t.run.now t.len s k c.args.place n after q c.len-len.ensures.answer c.remove_at.ensures);
       after = λ k (s : S) q. remove_closes law blank t.run.now t.len s k c.args.place n after q c.len-len.ensures.answer c.remove_at.ensures;
     }

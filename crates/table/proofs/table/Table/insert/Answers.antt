@@ -56,7 +56,7 @@ returns g c =
     let room = c.if-len-self.false in
     let holds = λ (s : S) (q : Q) (p : P). add_inserts law blank t.run.now t.len s k i n after q p counted room c.insert_at.ensures in
     record {
-      same = record { lender = refl {a = t.run.name}; long = c.insert_at.auto.run };
+      same = record { lender = refl {a = t.run.ghost_name}; long = c.insert_at.auto.run };
       sound = λ (s : S) (q : Q) (p : P). sound_with law blank t.run.now t.len s k after (n + 1) (holds s q p);
       answer = λ (s : S) (q : Q). accepts_room law (capacity t) k (items t) s.ascending q (λ h. room (counted ∙ h));
       after = holds;
