@@ -6,7 +6,7 @@ use Rattle.std.proofs.Common.{◌≡◌, ℕ, ◌<◌, ◌≤◌, cond, nat_abs,
 use Rattle.std.specs.List.{slice_get}
 use Rattle.std.specs.Option.{option_map}
 use Rattle.std.proofs.lemmas.Bool.{eq-eqb, ne_eqb}
-use Rattle.std.proofs.lemmas.Map.Invariant.{sorted-from-test}
+use Rattle.table.proofs.SortedTests.{sorted_from_test}
 use Rattle.bag.specs.declared.lines.StockLine.{StockLine}
 use Rattle.bag.specs.Order.{Row, stock_line_order}
 use Rattle.bag.specs.Bag.{count, next}
@@ -40,7 +40,7 @@ module _ (stock : OrderedStock) (s : ℕ) (r : Row) where
     copies_some i o q n = ap found_count (n ∙ place_holds stock_line_order (key s r) (items stock.table) i (sym q)) ∙ sym (copies_found stock sound.table sound.lines s r low (key s r) refl refl)
 
     next_by : next_answer (held stock) s r ≡ option_map row_and_count (next_on s (first_after stock_line_order (key s r) (items stock.table)))
-    next_by = ap (option_map row_and_count) (ap (λ b. next b r) (shelf_at s (items stock.table) low) ∙ next_on_shelf (key s r) (items stock.table) (sorted-from-test stock_line_order (items stock.table) sound.table.ascending))
+    next_by = ap (option_map row_and_count) (ap (λ b. next b r) (shelf_at s (items stock.table) low) ∙ next_on_shelf (key s r) (items stock.table) (sorted_from_test stock_line_order (items stock.table) sound.table.ascending))
 
     pub next_none : None ≡ first_after stock_line_order (key s r) (items stock.table) → None ≡ next_answer (held stock) s r
     next_none q = sym (next_by ∙ ap (λ o. option_map row_and_count (next_on s o)) (sym q))

@@ -4,7 +4,7 @@
 --     same_shelf          on one shelf the rows decide
 --     same_key_means, other_shelf, other_row      when two lines have equal keys
 use Rattle.std.proofs.Common.{◌≡◌, ℕ, ◌<◌, true, false, ◌⊎◌, Ordering, Less, Equal, Greater, sym, refl, ap, ◌∙◌, inl, inr, arith}
-use Rattle.std.specs.Cmp.{nat_cmp_total, ranks}
+use Rattle.std.specs.Cmp.{nat_cmp_is, ranks}
 use Rattle.std.specs.Ordering.{MatchOrdering, ordering_then, is_eq, nat_cmp}
 use Rattle.bag.specs.declared.lines.StockLine.{StockLine}
 use Rattle.bag.specs.Order.{Row, row_order, key_order, stock_line_order}
@@ -30,7 +30,7 @@ key_says m a n b = by (nat_cmp m n) (ranks m n)
     by Greater h = inl h
 
 number_itself : (m : ℕ) → nat_cmp m m ≡ Equal
-number_itself m = sym (nat_cmp_total.says m m Equal refl)
+number_itself m = sym (nat_cmp_is m m Equal refl)
 
 pub same_shelf : (m : ℕ) (a : Row) (n : ℕ) (b : Row) → m ≡ n → key_order m a n b ≡ row_order a b
 same_shelf m a n b e = ap (λ o. ordering_then o (row_order a b)) (ap (nat_cmp m) (sym e) ∙ number_itself m)

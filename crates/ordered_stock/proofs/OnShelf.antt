@@ -10,7 +10,7 @@ use Rattle.std.specs.List.{AllByRecursion}
 use Rattle.std.specs.List.Sorted.{IsStrictlySortedBy}
 use Rattle.std.specs.Ordering.{is_eq}
 use Rattle.std.proofs.lemmas.Bool.{eqb-true, eq-eqb, ne_eqb}
-use Rattle.std.proofs.lemmas.Map.Invariant.{sorted-from-test}
+use Rattle.table.proofs.SortedTests.{sorted_from_test}
 use Rattle.bag.specs.declared.lines.StockLine.{StockLine}
 use Rattle.bag.specs.Order.{row_order, stock_line_order}
 use Rattle.bag.specs.Bag.{Line, Lines, is_zero, is_positive, if_equal, if_less, count, next, Before, Canonical, Positive, IsBag, EachRow}
@@ -115,7 +115,7 @@ positive_on_shelf s (x ∷ xs) all = by (eqb x.shelf s) (positive_on_shelf s xs 
     by false ih = ih
 
 pub bag_on_shelf : (s : ℕ) (xs : List StockLine) → Ascending stock_line_order xs → AllByRecursion LawfulLine xs → IsBag (on_shelf s xs)
-bag_on_shelf s xs up all = (canonical_on_shelf s xs (sorted-from-test stock_line_order xs up) all, positive_on_shelf s xs all)
+bag_on_shelf s xs up all = (canonical_on_shelf s xs (sorted_from_test stock_line_order xs up) all, positive_on_shelf s xs all)
 
 pub rows_on_shelf : (s : ℕ) (xs : List StockLine) → AllByRecursion LawfulLine xs → EachRow IsRow (on_shelf s xs)
 unfolding on_shelf

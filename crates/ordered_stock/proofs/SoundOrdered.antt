@@ -7,7 +7,7 @@ use Rattle.std.proofs.Common.{◌≡◌, ℕ, ◌-◌, ◌<◌, ◌≤◌, List,
 use Rattle.std.specs.List.{AllByRecursion}
 use Rattle.std.proofs.lemmas.List.{length-take, length-take-le}
 use Rattle.std.proofs.lemmas.Bool.{cases_lt}
-use Rattle.std.proofs.lemmas.Map.Invariant.{sorted-from-test}
+use Rattle.table.proofs.SortedTests.{sorted_from_test}
 use Rattle.bag.specs.declared.lines.StockLine.{StockLine}
 use Rattle.bag.specs.Lines.{blank_stock_line}
 use Rattle.bag.specs.Order.{Row, stock_line_order}
@@ -39,7 +39,7 @@ empty_count r = omega arith
 
 module _ (stock : OrderedStock) (t : Sound stock_line_order blank_stock_line stock.table) (all : AllByRecursion LawfulLine (items stock.table)) where
   again : laid_out 0 (shelves_of (items stock.table)) ≡ items stock.table
-  again = laid_out_again 16 0 (items stock.table) (sorted-from-test stock_line_order (items stock.table) t.ascending) (within_sixteen (items stock.table) all)
+  again = laid_out_again 16 0 (items stock.table) (sorted_from_test stock_line_order (items stock.table) t.ascending) (within_sixteen (items stock.table) all)
 
   pub lines_held : lines_of (held stock) ≡ length (items stock.table)
   lines_held = sym (length_laid_out 0 (shelves_of (items stock.table))) ∙ ap length again

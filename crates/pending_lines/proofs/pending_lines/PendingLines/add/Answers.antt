@@ -23,16 +23,16 @@ returns-then-slot c =
     let l = c.args.line.now in
     let k = key_of l in
     let n = l.change in
-    let i = c.find_slot.result.place in
+    let i = c.find-slot.result.place in
     let after = c.change_at.new.self in
-    let some = λ (o : Ordered p). since-true c.find_slot.result.found (is_zero (count xs k)) (c.find_slot.ensures.found o) c.if-slot.true in
+    let some = λ (o : Ordered p). since-true c.find-slot.result.found (is_zero (count xs k)) (c.find-slot.ensures.found o) c.if-slot.true in
     let here = λ (o : Ordered p). present_since k xs o.canonical (some o) in
-    let read = λ (o : Ordered p). ap (λ j. (get_or xs j no_line).1) (c.find_slot.ensures.place o) ∙ (here o).change in
-    let row = λ (o : Ordered p). ap (λ j. (get_or xs j no_line).0) (c.find_slot.ensures.place o) ∙ (here o).row in
+    let read = λ (o : Ordered p). ap (λ j. (get_or xs j no_line).1) (c.find-slot.ensures.place o) ∙ (here o).change in
+    let row = λ (o : Ordered p). ap (λ j. (get_or xs j no_line).0) (c.find-slot.ensures.place o) ∙ (here o).row in
     let done = λ (o : Ordered p) (a : Addable xs l).
     c.change_at.ensures.after (subst (λ (z : ℤ). SFits w32 (n +ℤ z)) (sym (read o)) a.fits)
     ∙ ap₂ (λ (r : Row) (z : ℤ). take i xs ++ with_line r (n +ℤ z) (drop (suc i) xs)) (row o) (read o)
-    ∙ ap (λ j. take j xs ++ with_line k (n +ℤ count xs k) (drop (suc j) xs)) (c.find_slot.ensures.place o)
+    ∙ ap (λ j. take j xs ++ with_line k (n +ℤ count xs k) (drop (suc j) xs)) (c.find-slot.ensures.place o)
     ∙ sym ((here o).added n) in
     record {
       answer = λ (o : Ordered p). let z = some o in ap (λ b. not b || ltb (length xs) 64) (sym z);
@@ -47,13 +47,13 @@ returns c =
     let l = c.args.line.now in
     let k = key_of l in
     let n = l.change in
-    let i = c.find_slot.result.place in
+    let i = c.find-slot.result.place in
     let b = c.insert.result in
     let long = length-map (held p) keyed in
-    let none = λ (o : Ordered p). since-false c.find_slot.result.found (is_zero (count xs k)) (c.find_slot.ensures.found o) c.if-slot.false in
+    let none = λ (o : Ordered p). since-false c.find-slot.result.found (is_zero (count xs k)) (c.find-slot.ensures.found o) c.if-slot.false in
     let gone = λ (o : Ordered p). absent_since k xs o.canonical (none o) in
     let put = λ (o : Ordered p) (a : Addable xs l).
-    map_inserted keyed (held p) i l ∙ ap (λ j. take j xs ++ ((k, n) ∷ drop j xs)) (c.find_slot.ensures.place o) ∙ sym ((gone o).added n a.some) in
+    map_inserted keyed (held p) i l ∙ ap (λ j. take j xs ++ ((k, n) ∷ drop j xs)) (c.find-slot.ensures.place o) ∙ sym ((gone o).added n a.some) in
     let either : (d : Bool) → Ordered p → Addable xs l → map keyed (cond d (take i (held p) ++ (l ∷ drop i (held p))) (held p)) ≡ cond d (add_copies k n xs) xs =
     λ d o a. elim d as (λ d. map keyed (cond d (take i (held p) ++ (l ∷ drop i (held p))) (held p)) ≡ cond d (add_copies k n xs) xs) [ true ↦ put o a | false ↦ refl ] in
     let done = λ (o : Ordered p) (a : Addable xs l). ap (map keyed) c.insert.ensures.after ∙ either b o a in
