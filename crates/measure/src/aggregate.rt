@@ -1,5 +1,3 @@
-ghost use Rattle.std.proofs.Common.{rules};
-
 use crate::measure::Measure;
 use bag::laws::Aggregate;
 
@@ -15,5 +13,5 @@ impl<M: Measure> Aggregate for Aggregated<M> {
 
     ghost measure = { M.Measure.model };
 
-    ghost lawful = { Prim.search rules };
+    ghost lawful = { M.Measure.lawful };
 }

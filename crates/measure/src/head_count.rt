@@ -1,4 +1,4 @@
-ghost use Rattle.bag.specs.Measure.{any_head, head_count};
+ghost use Rattle.measure.specs.HeadCount.{any_head, head_count};
 ghost use Rattle.std.proofs.Common.{rules};
 
 use crate::measure::Measure;

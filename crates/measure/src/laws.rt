@@ -1,6 +1,7 @@
 // Statements of specs/ that hold of the measures. A theorem is held only where a contract names it, so each has a function that names it.
 ghost use Rattle.bag.specs.Laws.{TotalFollowsChangeFromItsRows};
-ghost use Rattle.measure.specs.Laws.{ShowsTheFirstThenTheSecond};
+ghost use Rattle.measure.specs.Laws.{ShowsTheFirstThenTheSecond, ShowsAsFarAsThereIsRoom};
+ghost use Rattle.measure.specs.WorkedInFull.{WorkedValuesInFull};
 ghost use Rattle.measure.specs.WorkedValues.{WorkedValues};
 
 use crate::aggregate::Aggregated;
@@ -14,9 +15,23 @@ pub fn worked_values() -> u8
     0
 }
 
+// More of them, each with all the columns that its measure shows.
+pub fn worked_values_in_full() -> u8
+    ensures { WorkedValuesInFull }
+{
+    0
+}
+
 // The columns of a pair that fits are the first's and then the second's.
 pub fn shows_the_first_then_the_second<A: Measure, B: Measure>() -> u8
     ensures { ShowsTheFirstThenTheSecond A.Measure.ok B.Measure.ok A.Measure.model B.Measure.model }
+{
+    0
+}
+
+// The same also where the second's columns have no room any more, as long as the first leaves some.
+pub fn shows_as_far_as_there_is_room<A: Measure, B: Measure>() -> u8
+    ensures { ShowsAsFarAsThereIsRoom A.Measure.ok B.Measure.ok A.Measure.model B.Measure.model }
 {
     0
 }

@@ -9,7 +9,7 @@ use Rattle.std.proofs.Common.{◌≡◌, ℕ, zero, suc, ◌+◌, ◌-◌, ◌<�
 use Rattle.std.specs.List.{AllByRecursion}
 use Rattle.std.specs.Ordering.{is_eq}
 use Rattle.std.specs.List.Sorted.{IsStrictlySortedBy}
-use Rattle.std.proofs.lemmas.Map.Invariant.{test-from-sorted}
+use Rattle.table.proofs.SortedTests.{test_from_sorted}
 use Rattle.std.proofs.lemmas.List.{append-nil}
 use Rattle.std.proofs.lemmas.Int.{ints}
 use Rattle.std.proofs.lemmas.Bool.{cases_eq, eqb-true, eq-eqb, ne_eqb}
@@ -75,7 +75,7 @@ no_zero [] c = tt
 no_zero (x ∷ ls) c = (c.0, no_zero ls c.2)
 
 ascends : (m : List Record) → AscendingLines (nets_of m)
-ascends m = let c = canonical_nets 16 0 m in record { ascend = test-from-sorted change_line_order (nets_of m) (sorted (nets_of m) c); some = no_zero (nets_of m) c }
+ascends m = let c = canonical_nets 16 0 m in record { ascend = test_from_sorted change_line_order (nets_of m) (sorted (nets_of m) c); some = no_zero (nets_of m) c }
 
 at_own : (i k : ℕ) (d : Lines) (ls : List ChangeLine) → k ≡ i → at_node i (of_node k d ++ ls) ≡ d ++ at_node i ls
 unfolding at_node

@@ -11,4 +11,4 @@ invariant-loop-turn g l =
     let stock = g.S.Stock in
     SoundBook stock l.self
     → (next (shelf_of (meaning_of stock l.self) l.shelf) l.row ≡ next (shelf_of (meaning_of stock l.self) l.shelf) l.at)
-    × (l.-turn + length (rows_after (changes l.self.pending) (key l.shelf l.at)) ≤ 64)
+    × (l._turn + length (rows_after (changes l.self.pending) (key l.shelf l.at)) ≤ 64)
