@@ -32,5 +32,5 @@ returns-in-Greater g c =
           let old = c.args.old.now in
           let new = c.args.new.now in
           subst (Walked (g.S.Stock.meaning c.args.stock.now) c.args.node c.args.room c.append-in-Greater.new.sheet c.append-in-Greater.result.used c.append-in-Greater.result.over es) (exchange_greater d old new (sym c.in-Greater.ensures))
-          (c.append-in-Greater.ensures.after es (d ++ ((new, pos 1) ∷ [])) s (c.append-first_in-Greater.ensures.after es d s w));
+          (c.append-in-Greater.ensures.after es (d ++ ((new, pos 1) ∷ [])) s (c.append-first-in-Greater.ensures.after es d s w));
     }

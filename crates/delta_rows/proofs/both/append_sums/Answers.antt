@@ -16,13 +16,13 @@ use Rattle.delta_rows.proofs.both.append_sums.Goals as goal
 pub loop-turn-init : goal.loop-turn-init
 loop-turn-init g c = λ (es : List ChangeLine) (i j : ℕ) (dl dr : Lines) (s : g.S.Stock.sound c.args.stock.now) (o : OnSheet c.args.room c.args.sheet.now c.args.used es) (f : length es ≤ c.args.room)
     (l : Side (g.S.Stock.meaning c.args.stock.now) es c.args.left i dl) (r : Side (g.S.Stock.meaning c.args.stock.now) es c.args.right j dr).
-    merging_none sum_at sum_none dl dr (g.S.Stock.meaning c.args.stock.now) c.args.node c.args.room es c.args.sheet.now c.args.used o l.in-order r.in_order
+    merging_none sum_at sum_none dl dr (g.S.Stock.meaning c.args.stock.now) c.args.node c.args.room es c.args.sheet.now c.args.used o l.in_order r.in_order
 
 pub loop-turn-preserved : goal.loop-turn-preserved
 loop-turn-preserved g c = λ (es : List ChangeLine) (i j : ℕ) (dl dr : Lines) (s : g.S.Stock.sound c.args.stock.now) (o : OnSheet c.args.room c.args.sheet.now c.args.used es) (f : length es ≤ c.args.room)
     (l : Side (g.S.Stock.meaning c.args.stock.now) es c.args.left i dl) (r : Side (g.S.Stock.meaning c.args.stock.now) es c.args.right j dr).
     let was = c.loop-turn.invariant es i j dl dr s o f l r in
-    let turned = c.in-Some.ensures.turned c.args.room c.loop-turn.walk.used es (of_node c.args.node was.out) i j dl dr was.walked.on_sheet f l.run-of r.run_of in
+    let turned = c.in-Some.ensures.turned c.args.room c.loop-turn.walk.used es (of_node c.args.node was.out) i j dl dr was.walked.on_sheet f l.run_of r.run_of in
     let h = g.S.Stock.meaning c.args.stock.now in
     let q = c.in-Some.turn.row in
     let xs = drop c.loop-turn.at.left dl in
