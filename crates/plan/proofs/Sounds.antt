@@ -8,10 +8,10 @@ use Rattle.bag.specs.declared.condition.Operand.{Operand}
 use Rattle.bag.specs.declared.condition.Operand.TheVariants.{Constant, Column}
 use Rattle.plan.specs.declared.node.Node.{Node}
 use Rattle.plan.specs.declared.node.Node.TheVariants.{Base, Keep, Pick, Pair, Both, Less, Total}
-use Rattle.plan.specs.Lawful.{width, every, list_fits, columns_fit, pair_fits, pairs_fit, operand_fits, fits, widths, lawful, OneToEight}
+use Rattle.plan.specs.Lawful.{width, every, list_fits, columns_fit, pair_fits, pairs_fit, operand_fits, fits, widths, lawful}
 use Rattle.plan.specs.Fields.{no_pair}
 use Rattle.plan.specs.Sound.{ColumnsBelow, OperandBelow, Sound}
-use Rattle.plan.proofs.Growth.{widths_push, widths_length, lawful_at, widths_take, Narrow, narrow_none, widths_narrow, widths_one_to_eight}
+use Rattle.plan.proofs.Growth.{widths_push, widths_length, lawful_at, widths_take, widths_narrow}
 
 every_at : {X : Type 0} (test : X → Bool) (xs : List X) → every test xs ≡ true → (j : ℕ) (d : X) → j < length xs → test (get_or xs j d) ≡ true
 unfolding every
@@ -27,12 +27,6 @@ listed_at size test blank n xs m e j d h =
     let lt : length (take n xs) ≡ n = length-take-le n xs (omega arith) in
     subst (λ x. test x ≡ true) (get_or-take n xs j d h) (every_at test (take n xs) q.0 j d (omega arith))
 
-listed_long : {X : Type 0} (size : ℕ) (test blank : X → Bool) (n : ℕ) (xs : List X) → list_fits size test blank n xs ≡ true → length xs ≡ size
-listed_long size test blank n xs e = eqb-true (length xs) size (and_parts (eqb (length xs) size) _ e).0
-
-columns_long : (n w : ℕ) (cs : List ℕ) → columns_fit n w cs ≡ true → length cs ≡ 8
-columns_long n w cs e = listed_long 8 (λ c. ltb c w) (λ c. eqb c 0) n cs e
-
 columns_below : (n w : ℕ) (cs : List ℕ) → n ≤ 8 → columns_fit n w cs ≡ true → ColumnsBelow n cs w
 columns_below n w cs m e j h = ltb-true (get_or cs j 0) w (listed_at 8 (λ c. ltb c w) (λ c. eqb c 0) n cs m e j 0 h)
 
@@ -40,15 +34,12 @@ operand_below : (o : Operand) (w : ℕ) → operand_fits w o ≡ true → Operan
 operand_below (Constant v) w e = tt
 operand_below (Column b) w e = ltb-true b w e
 
-module _ (k : ℕ) (ws : List ℕ) (i : ℕ) (inside : i ≤ length ws) (thin : Narrow ws) where
+module _ (k : ℕ) (ws : List ℕ) (i : ℕ) (inside : i ≤ length ws) where
   lower : (c : ℕ) → ltb c (length (take i ws)) ≡ true → c < i
   lower c e = let l = length-take-le i ws inside in let m = ltb-true c (length (take i ws)) e in omega arith
 
   at : (c : ℕ) → c < i → get_or (take i ws) c 0 ≡ get_or ws c 0
   at c h = get_or-take i ws c 0 h
-
-  wide : (c : ℕ) → c < i → OneToEight (get_or ws c 0)
-  wide c h = thin c (omega arith)
 
   fits_sound : (x : Node) → fits k (take i ws) x ≡ true → Sound k ws i x
   fits_sound (Base w) e =
@@ -60,7 +51,6 @@ module _ (k : ℕ) (ws : List ℕ) (i : ℕ) (inside : i ≤ length ws) (thin : 
       let h = lower c p.0 in
       record {
         lower = h;
-        wide = wide c h;
         column = subst (λ w. a < w) (at c h) (ltb-true a (get_or (take i ws) c 0) q.0);
         other = subst (OperandBelow o) (at c h) (operand_below o (get_or (take i ws) c 0) q.1);
       }
@@ -71,10 +61,8 @@ module _ (k : ℕ) (ws : List ℕ) (i : ℕ) (inside : i ≤ length ws) (thin : 
       let h = lower c p.0 in
       record {
         lower = h;
-        wide = wide c h;
         some = leb-true 1 n s.0;
         few = leb-true n 8 s.1;
-        places = columns_long n (get_or (take i ws) c 0) cs q.1;
         below = subst (ColumnsBelow n cs) (at c h) (columns_below n (get_or (take i ws) c 0) cs (leb-true n 8 s.1) q.1);
       }
   fits_sound (Pair l r n ps) e =
@@ -91,10 +79,7 @@ module _ (k : ℕ) (ws : List ℕ) (i : ℕ) (inside : i ≤ length ws) (thin : 
       record {
         left = hl;
         right = hr;
-        left_wide = wide l hl;
-        right_wide = wide r hr;
         few = leb-true n 4 s.0;
-        places = listed_long 4 (pair_fits (get_or vs l 0) (get_or vs r 0)) _ n ps t.0;
         left_below = λ j h. subst (λ w. (get_or ps j no_pair).left < w) el (ltb-true (get_or ps j no_pair).left (get_or vs l 0) (and_parts (ltb (get_or ps j no_pair).left (get_or vs l 0)) _ (each j h)).0);
         right_below = λ j h. subst (λ w. (get_or ps j no_pair).right < w) er (ltb-true (get_or ps j no_pair).right (get_or vs r 0) (and_parts (ltb (get_or ps j no_pair).left (get_or vs l 0)) _ (each j h)).1);
         narrow = let m = leb-true (get_or vs l 0 + get_or vs r 0) 8 t.1 in omega arith;
@@ -104,13 +89,13 @@ module _ (k : ℕ) (ws : List ℕ) (i : ℕ) (inside : i ≤ length ws) (thin : 
       let q = and_parts (ltb r (length (take i ws))) _ p.1 in
       let hl = lower l p.0 in
       let hr = lower r q.0 in
-      record { left = hl; right = hr; left_wide = wide l hl; right_wide = wide r hr; equal = sym (at l hl) ∙ (eqb-true (get_or (take i ws) l 0) (get_or (take i ws) r 0) q.1 ∙ at r hr) }
+      record { left = hl; right = hr; equal = sym (at l hl) ∙ (eqb-true (get_or (take i ws) l 0) (get_or (take i ws) r 0) q.1 ∙ at r hr) }
   fits_sound (Less l r) e =
       let p = and_parts (ltb l (length (take i ws))) _ e in
       let q = and_parts (ltb r (length (take i ws))) _ p.1 in
       let hl = lower l p.0 in
       let hr = lower r q.0 in
-      record { left = hl; right = hr; left_wide = wide l hl; right_wide = wide r hr; equal = sym (at l hl) ∙ (eqb-true (get_or (take i ws) l 0) (get_or (take i ws) r 0) q.1 ∙ at r hr) }
+      record { left = hl; right = hr; equal = sym (at l hl) ∙ (eqb-true (get_or (take i ws) l 0) (get_or (take i ws) r 0) q.1 ∙ at r hr) }
   fits_sound (Total c j n cs) e =
       let p = and_parts (ltb c (length (take i ws))) _ e in
       let q = and_parts (ltb j (get_or (take i ws) c 0)) _ p.1 in
@@ -120,10 +105,8 @@ module _ (k : ℕ) (ws : List ℕ) (i : ℕ) (inside : i ≤ length ws) (thin : 
       let m : n ≤ 7 = leb-true n 7 s.0 in
       record {
         lower = h;
-        wide = wide c h;
         column = subst (λ w. j < w) (at c h) (ltb-true j (get_or (take i ws) c 0) q.0);
         few = m;
-        places = columns_long n (get_or (take i ws) c 0) cs t.0;
         below = subst (ColumnsBelow n cs) (at c h) (columns_below n (get_or (take i ws) c 0) cs (omega arith) t.0);
         narrow = leb-true (n + 1 + k) 8 t.1;
       }
@@ -144,11 +127,8 @@ module _ (k : ℕ) (xs : List Node) (law : lawful k [] xs ≡ true) (i : ℕ) (h
   first : take i (widths k [] xs) ≡ widths k [] (take i xs)
   first = widths_take k xs i (omega arith)
 
-  thin : Narrow (widths k [] xs)
-  thin = widths_narrow k [] xs narrow_none law
-
   pub sound_at : Sound k (widths k [] xs) i (get_or xs i d)
-  sound_at = let n = long in fits_sound k (widths k [] xs) i (omega arith) thin (get_or xs i d) (rw first (lawful_at k [] xs d law i h))
+  sound_at = let n = long in fits_sound k (widths k [] xs) i (omega arith) (get_or xs i d) (rw first (lawful_at k [] xs d law i h))
 
   pub wide_at : slice_get (widths k [] xs) i ≡ Some (width k (widths k [] xs) (get_or xs i d))
   wide_at =
@@ -158,15 +138,11 @@ module _ (k : ℕ) (xs : List Node) (law : lawful k [] xs ≡ true) (i : ℕ) (h
       let l : length (widths k [] (take i xs)) ≡ i = widths_length k [] (take i xs) ∙ omega (arith, length-take-le i xs (omega arith)) in
       let e : take (i + 1) ws ≡ widths k [] (take i xs) ++ width k (widths k [] (take i xs)) x ∷ [] = widths_take k xs (i + 1) (omega arith) ∙ (ap (widths k []) (take_more xs i d h) ∙ widths_push k [] (take i xs) x) in
       let g : get_or ws i 0 ≡ width k (widths k [] (take i xs)) x = sym (get_or-take (i + 1) ws i 0 (omega arith)) ∙ (ap (λ v. get_or v i 0) e ∙ get_or_push (widths k [] (take i xs)) (width k (widths k [] (take i xs)) x) 0 i l) in
-      let s : width k (widths k [] (take i xs)) x ≡ width k ws x = ap (λ v. width k v x) (sym first) ∙ width_same k ws i (omega arith) thin x sound_at in
+      let s : width k (widths k [] (take i xs)) x ≡ width k ws x = ap (λ v. width k v x) (sym first) ∙ width_same k ws i (omega arith) x sound_at in
       slice_get-get_or ws i 0 (omega arith) ∙ ap Some (g ∙ s)
 
-  pub narrow_at : OneToEight (width k (widths k [] xs) (get_or xs i d))
-  narrow_at =
-      let n = long in
-      let e = sym (slice_get-get_or (widths k [] xs) i 0 (omega arith)) ∙ wide_at in
-      let f : get_or (widths k [] xs) i 0 ≡ width k (widths k [] xs) (get_or xs i d) = cc in
-      subst OneToEight f (widths_one_to_eight k xs law i h)
+pub narrow_at : (k : ℕ) (xs : List Node) → lawful k [] xs ≡ true → (i : ℕ) → get_or (widths k [] xs) i 0 ≤ 8
+narrow_at k xs law = widths_narrow k [] xs (λ j. omega arith) law
 
 -- a plan has as many nodes as widths
 pub nodes_long : (k : ℕ) (xs : List Node) (ws : List ℕ) (len : ℕ) → len ≤ length ws → take len ws ≡ widths k [] xs → length xs ≡ len

