@@ -1,10 +1,11 @@
 -- A plan that grows by a node, and what holds of each of its nodes.
 use Rattle.std.proofs.Common.{◌≡◌, ℕ, zero, suc, ◌+◌, ◌<◌, ◌≤◌, true, ◌&&◌, ltb, leb, List, [], ◌∷◌, ◌++◌, length, get_or, take, drop, set, sym, refl, ap, ◌∙◌, subst, arith, length-append}
-use Rattle.std.proofs.lemmas.Bool.{and_parts, and_from, leb-true}
+use Rattle.std.proofs.lemmas.Bool.{and_parts, and_from, leb-true, ltb-true}
 use Rattle.std.proofs.lemmas.List.{take_more_set, take_all, take-take, take_at, length-take-le, take-append-drop}
 use Rattle.plan.specs.declared.node.Node.{Node}
 use Rattle.plan.specs.declared.node.Node.TheVariants.{Base, Keep, Pick, Pair, Both, Less, Total}
-use Rattle.plan.specs.Lawful.{width, fits, widths, lawful, columns_fit, pairs_fit}
+use Rattle.plan.specs.Lawful.{width, fits, widths, lawful, columns_fit, pairs_fit, OneToEight}
+use Rattle.plan.specs.Laws.{WidthsOneToEight}
 
 pub widths_push : (k : ℕ) (ws : List ℕ) (xs : List Node) (x : Node) → widths k ws (xs ++ x ∷ []) ≡ widths k ws xs ++ width k (widths k ws xs) x ∷ []
 unfolding widths
@@ -47,37 +48,46 @@ module _ (k : ℕ) (nodes : List Node) (ws : List ℕ) (len : ℕ) (x : Node) (w
       let e' : w ≡ width k (widths k [] (take len nodes)) x = e ∙ ap (λ v. width k v x) wide in
       rw (take_more_set nodes len x in-nodes, take_more_set ws len w in-ws, widths_push k [] (take len nodes) x, wide, e') refl
 
+-- every width is 1 to 8
 abbrev pub Narrow : List ℕ → Type 0
-Narrow ws = (j : ℕ) → get_or ws j 0 ≤ 8
+Narrow ws = (j : ℕ) → j < length ws → OneToEight (get_or ws j 0)
+
+between : (n a b : ℕ) → (leb a n && leb n b) ≡ true → (a ≤ n) × (n ≤ b)
+between n a b e = let p = and_parts (leb a n) (leb n b) e in (leb-true a n p.0, leb-true n b p.1)
 
 -- a node that fits over narrow nodes is narrow
-pub fit_narrow : (k : ℕ) (ws : List ℕ) (x : Node) → Narrow ws → fits k ws x ≡ true → width k ws x ≤ 8
-fit_narrow k ws (Base w) n e = leb-true w 8 (and_parts (leb 1 w) (leb w 8) e).1
-fit_narrow k ws (Keep c a r o) n e = n c
+pub fit_narrow : (k : ℕ) (ws : List ℕ) (x : Node) → Narrow ws → fits k ws x ≡ true → OneToEight (width k ws x)
+fit_narrow k ws (Base w) n e = let b = between w 1 8 e in record { some = b.0; narrow = b.1 }
+fit_narrow k ws (Keep c a r o) n e = n c (ltb-true c (length ws) (and_parts (ltb c (length ws)) _ e).0)
 fit_narrow k ws (Pick c m cs) n e =
     let p = and_parts (ltb c (length ws)) _ e in
     let q = and_parts (leb 1 m && leb m 8) _ p.1 in
-    leb-true m 8 (and_parts (leb 1 m) (leb m 8) q.0).1
+    let b = between m 1 8 q.0 in
+    record { some = b.0; narrow = b.1 }
 fit_narrow k ws (Pair l r m ps) n e =
     let p = and_parts (ltb l (length ws)) _ e in
     let q = and_parts (ltb r (length ws)) _ p.1 in
     let s = and_parts (leb m 4) _ q.1 in
     let t = and_parts (pairs_fit m (get_or ws l 0) (get_or ws r 0) ps) _ s.1 in
-    leb-true (get_or ws l 0 + get_or ws r 0) 8 t.1
-fit_narrow k ws (Both l r) n e = n l
-fit_narrow k ws (Less l r) n e = n l
+    let left = (n l (ltb-true l (length ws) p.0)).some in
+    record { some = omega arith; narrow = leb-true (get_or ws l 0 + get_or ws r 0) 8 t.1 }
+fit_narrow k ws (Both l r) n e = n l (ltb-true l (length ws) (and_parts (ltb l (length ws)) _ e).0)
+fit_narrow k ws (Less l r) n e = n l (ltb-true l (length ws) (and_parts (ltb l (length ws)) _ e).0)
 fit_narrow k ws (Total c j m cs) n e =
     let p = and_parts (ltb c (length ws)) _ e in
     let q = and_parts (ltb j (get_or ws c 0)) _ p.1 in
     let s = and_parts (leb m 7) _ q.1 in
     let t = and_parts (columns_fit m (get_or ws c 0) cs) _ s.1 in
-    leb-true (m + 1 + k) 8 t.1
+    record { some = omega arith; narrow = leb-true (m + 1 + k) 8 t.1 }
 
-narrow_push : (ws : List ℕ) (w : ℕ) → Narrow ws → w ≤ 8 → Narrow (ws ++ w ∷ [])
-narrow_push [] w n h zero = h
-narrow_push [] w n h (suc j) = omega arith
-narrow_push (v ∷ ws) w n h zero = n zero
-narrow_push (v ∷ ws) w n h (suc j) = narrow_push ws w (λ i. n (suc i)) h j
+pub narrow_none : Narrow []
+narrow_none j h = absurd (omega arith)
+
+pub narrow_push : (ws : List ℕ) (w : ℕ) → Narrow ws → OneToEight w → Narrow (ws ++ w ∷ [])
+narrow_push [] w n h zero l = h
+narrow_push [] w n h (suc j) l = absurd (omega arith)
+narrow_push (v ∷ ws) w n h zero l = n zero (omega arith)
+narrow_push (v ∷ ws) w n h (suc j) l = narrow_push ws w (λ i m. n (suc i) (omega arith)) h j (omega arith)
 
 pub widths_narrow : (k : ℕ) (ws : List ℕ) (xs : List Node) → Narrow ws → lawful k ws xs ≡ true → Narrow (widths k ws xs)
 unfolding widths lawful
@@ -85,6 +95,9 @@ widths_narrow k ws [] n e = n
 widths_narrow k ws (x ∷ xs) n e =
     let p = and_parts (fits k ws x) (lawful k (ws ++ width k ws x ∷ []) xs) e in
     widths_narrow k (ws ++ width k ws x ∷ []) xs (narrow_push ws (width k ws x) n (fit_narrow k ws x n p.0)) p.1
+
+pub widths_one_to_eight : WidthsOneToEight
+widths_one_to_eight k xs e i h = let n : length (widths k [] xs) ≡ length xs = widths_length k [] xs ∙ omega arith in widths_narrow k [] xs narrow_none e i (omega arith)
 
 -- the widths of the first nodes come first
 widths_front : (k : ℕ) (ws : List ℕ) (xs : List Node) → take (length ws) (widths k ws xs) ≡ ws

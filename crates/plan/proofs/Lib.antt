@@ -5,6 +5,8 @@ pub mod Taken
 pub mod Items
 pub mod Fields
 pub mod Nodes
+pub mod Codes
 pub mod Wholes
+pub mod Breaks
 pub mod Shown
 pub mod Sounds

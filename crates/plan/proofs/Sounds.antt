@@ -8,10 +8,10 @@ use Rattle.bag.specs.declared.condition.Operand.{Operand}
 use Rattle.bag.specs.declared.condition.Operand.TheVariants.{Constant, Column}
 use Rattle.plan.specs.declared.node.Node.{Node}
 use Rattle.plan.specs.declared.node.Node.TheVariants.{Base, Keep, Pick, Pair, Both, Less, Total}
-use Rattle.plan.specs.Lawful.{width, every, list_fits, columns_fit, pair_fits, pairs_fit, operand_fits, fits, widths, lawful}
+use Rattle.plan.specs.Lawful.{width, every, list_fits, columns_fit, pair_fits, pairs_fit, operand_fits, fits, widths, lawful, OneToEight}
 use Rattle.plan.specs.Fields.{no_pair}
-use Rattle.plan.specs.Sound.{ColumnsBelow, OperandBelow, Sound}
-use Rattle.plan.proofs.Growth.{widths_push, widths_length, lawful_at, widths_take, widths_narrow}
+use Rattle.plan.specs.Sound.{ColumnsBelow, OperandBelow, Sound, Handed}
+use Rattle.plan.proofs.Growth.{widths_push, widths_length, lawful_at, widths_take, Narrow, narrow_none, widths_narrow, widths_one_to_eight}
 
 every_at : {X : Type 0} (test : X → Bool) (xs : List X) → every test xs ≡ true → (j : ℕ) (d : X) → j < length xs → test (get_or xs j d) ≡ true
 unfolding every
@@ -26,6 +26,12 @@ listed_at size test blank n xs m e j d h =
     let long : length xs ≡ size = eqb-true (length xs) size p.0 in
     let lt : length (take n xs) ≡ n = length-take-le n xs (omega arith) in
     subst (λ x. test x ≡ true) (get_or-take n xs j d h) (every_at test (take n xs) q.0 j d (omega arith))
+
+listed_long : {X : Type 0} (size : ℕ) (test blank : X → Bool) (n : ℕ) (xs : List X) → list_fits size test blank n xs ≡ true → length xs ≡ size
+listed_long size test blank n xs e = eqb-true (length xs) size (and_parts (eqb (length xs) size) _ e).0
+
+columns_long : (n w : ℕ) (cs : List ℕ) → columns_fit n w cs ≡ true → length cs ≡ 8
+columns_long n w cs e = listed_long 8 (λ c. ltb c w) (λ c. eqb c 0) n cs e
 
 columns_below : (n w : ℕ) (cs : List ℕ) → n ≤ 8 → columns_fit n w cs ≡ true → ColumnsBelow n cs w
 columns_below n w cs m e j h = ltb-true (get_or cs j 0) w (listed_at 8 (λ c. ltb c w) (λ c. eqb c 0) n cs m e j 0 h)
@@ -111,6 +117,38 @@ module _ (k : ℕ) (ws : List ℕ) (i : ℕ) (inside : i ≤ length ws) where
         narrow = leb-true (n + 1 + k) 8 t.1;
       }
 
+  -- what the list of a node that fits has, and how wide the nodes are that it names
+  fits_handed : Narrow ws → (x : Node) → fits k (take i ws) x ≡ true → Sound k ws i x → Handed k ws i x
+  fits_handed thin (Base w) e s = record { some = s.some; narrow = s.narrow }
+  fits_handed thin (Keep c a r o) e s = let h = s.lower in record { wide = thin c (omega arith) }
+  fits_handed thin (Pick c n cs) e s =
+      let p = and_parts (ltb c (length (take i ws))) _ e in
+      let q = and_parts (leb 1 n && leb n 8) _ p.1 in
+      let h = s.lower in
+      record { wide = thin c (omega arith); places = columns_long n (get_or (take i ws) c 0) cs q.1 }
+  fits_handed thin (Pair l r n ps) e s =
+      let vs = take i ws in
+      let p = and_parts (ltb l (length vs)) _ e in
+      let q = and_parts (ltb r (length vs)) _ p.1 in
+      let m = and_parts (leb n 4) _ q.1 in
+      let t = and_parts (pairs_fit n (get_or vs l 0) (get_or vs r 0) ps) _ m.1 in
+      let hl = s.left in
+      let hr = s.right in
+      record {
+        left_wide = thin l (omega arith);
+        right_wide = thin r (omega arith);
+        places = listed_long 4 (pair_fits (get_or vs l 0) (get_or vs r 0)) _ n ps t.0;
+      }
+  fits_handed thin (Both l r) e s = let hl = s.left in let hr = s.right in record { left_wide = thin l (omega arith); right_wide = thin r (omega arith) }
+  fits_handed thin (Less l r) e s = let hl = s.left in let hr = s.right in record { left_wide = thin l (omega arith); right_wide = thin r (omega arith) }
+  fits_handed thin (Total c j n cs) e s =
+      let p = and_parts (ltb c (length (take i ws))) _ e in
+      let q = and_parts (ltb j (get_or (take i ws) c 0)) _ p.1 in
+      let m = and_parts (leb n 7) _ q.1 in
+      let t = and_parts (columns_fit n (get_or (take i ws) c 0) cs) _ m.1 in
+      let h = s.lower in
+      record { wide = thin c (omega arith); places = columns_long n (get_or (take i ws) c 0) cs t.0 }
+
   width_same : (x : Node) → Sound k ws i x → width k (take i ws) x ≡ width k ws x
   width_same (Base w) s = refl
   width_same (Keep c a r o) s = at c s.lower
@@ -127,8 +165,14 @@ module _ (k : ℕ) (xs : List Node) (law : lawful k [] xs ≡ true) (i : ℕ) (h
   first : take i (widths k [] xs) ≡ widths k [] (take i xs)
   first = widths_take k xs i (omega arith)
 
+  fit : fits k (take i (widths k [] xs)) (get_or xs i d) ≡ true
+  fit = rw first (lawful_at k [] xs d law i h)
+
   pub sound_at : Sound k (widths k [] xs) i (get_or xs i d)
-  sound_at = let n = long in fits_sound k (widths k [] xs) i (omega arith) (get_or xs i d) (rw first (lawful_at k [] xs d law i h))
+  sound_at = let n = long in fits_sound k (widths k [] xs) i (omega arith) (get_or xs i d) fit
+
+  pub handed_at : Handed k (widths k [] xs) i (get_or xs i d)
+  handed_at = let n = long in fits_handed k (widths k [] xs) i (omega arith) (widths_narrow k [] xs narrow_none law) (get_or xs i d) fit sound_at
 
   pub wide_at : slice_get (widths k [] xs) i ≡ Some (width k (widths k [] xs) (get_or xs i d))
   wide_at =
@@ -141,8 +185,12 @@ module _ (k : ℕ) (xs : List Node) (law : lawful k [] xs ≡ true) (i : ℕ) (h
       let s : width k (widths k [] (take i xs)) x ≡ width k ws x = ap (λ v. width k v x) (sym first) ∙ width_same k ws i (omega arith) x sound_at in
       slice_get-get_or ws i 0 (omega arith) ∙ ap Some (g ∙ s)
 
-pub narrow_at : (k : ℕ) (xs : List Node) → lawful k [] xs ≡ true → (i : ℕ) → get_or (widths k [] xs) i 0 ≤ 8
-narrow_at k xs law = widths_narrow k [] xs (λ j. omega arith) law
+  pub narrow_at : OneToEight (width k (widths k [] xs) (get_or xs i d))
+  narrow_at =
+      let n = long in
+      let e = sym (slice_get-get_or (widths k [] xs) i 0 (omega arith)) ∙ wide_at in
+      let f : get_or (widths k [] xs) i 0 ≡ width k (widths k [] xs) (get_or xs i d) = cc in
+      subst OneToEight f (widths_one_to_eight k xs law i h)
 
 -- a plan has as many nodes as widths
 pub nodes_long : (k : ℕ) (xs : List Node) (ws : List ℕ) (len : ℕ) → len ≤ length ws → take len ws ≡ widths k [] xs → length xs ≡ len

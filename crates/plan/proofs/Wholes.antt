@@ -1,19 +1,20 @@
 -- Whole plans, there and back.
-use Rattle.std.proofs.Common.{◌≡◌, ℕ, zero, suc, ◌+◌, ◌<◌, ◌≤◌, true, List, [], ◌∷◌, ◌++◌, length, Ok, Err, Result, sym, refl, ap, ◌∙◌, subst, append_assoc, arith, length-append}
+use Rattle.std.proofs.Common.{◌≡◌, ℕ, zero, suc, ◌+◌, ◌≤◌, true, List, [], ◌∷◌, ◌++◌, length, Ok, Err, Result, sym, refl, ap, ◌∙◌, subst, arith, length-append}
 use Rattle.std.specs.List.{AllByRecursion as All}
 use Rattle.std.proofs.lemmas.Bool.{and_parts, and_from}
 use Rattle.plan.specs.declared.node.Node.{Node}
 use Rattle.plan.specs.declared.node.Node.TheVariants.{Base, Keep, Pick, Pair, Both, Less, Total}
-use Rattle.plan.specs.Refusal.{Refusal, refused}
-use Rattle.plan.specs.Lawful.{width, fits, widths, lawful, InRange, LawfulPlan}
-use Rattle.plan.specs.Fields.{Read, bad_count}
+use Rattle.plan.specs.Refusal.{Refusal}
+use Rattle.plan.specs.Lawful.{width, fits, lawful, InRange, LawfulPlan}
+use Rattle.plan.specs.Fields.{Read}
 use Rattle.plan.specs.Check.{node, more, next, nodes, checked}
 use Rattle.bag.specs.Bytes.{Bytes}
 use Rattle.plan.specs.Encode.{encode, encode_all}
-use Rattle.plan.specs.Laws.{AcceptedAreEncodings, OneToOne, BrokenAt, RefusedWhereBroken}
+use Rattle.plan.specs.Laws.{AcceptedAreEncodings, EncodingsAreAccepted, OneEncoding, OneToOne}
 use Rattle.plan.proofs.Nodes.{node_was, node_read}
+use Rattle.plan.proofs.Codes.{plan_bytes}
 
-bytes_right : (xs ys : List ℕ) → Bytes (xs ++ ys) → Bytes ys
+pub bytes_right : (xs ys : List ℕ) → Bytes (xs ++ ys) → Bytes ys
 bytes_right [] ys h = h
 bytes_right (x ∷ xs) ys h = bytes_right xs ys h.1
 
@@ -21,7 +22,7 @@ more_ok : (x : Node) (o : Result (List Node) Refusal) (xs : List Node) → more 
 more_ok x (Ok ys) xs e = (ys, refl, cc)
 more_ok x (Err f) xs e = let z : ◌≡◌ {A = ℕ} 0 1 = cc in absurd (omega arith)
 
-more_err : (x : Node) (o : Result (List Node) Refusal) (e : Refusal) → more x o ≡ Err e → o ≡ Err e
+pub more_err : (x : Node) (o : Result (List Node) Refusal) (e : Refusal) → more x o ≡ Err e → o ≡ Err e
 more_err x (Ok ys) e f = let z : ◌≡◌ {A = ℕ} 0 1 = cc in absurd (omega arith)
 more_err x (Err g) e f = f
 
@@ -61,7 +62,7 @@ whole (suc s) k i ws (b ∷ bytes) xs e = on (node k ws (b ∷ bytes)) refl e (�
         })
 
 -- every node has a byte
-long : (x : Node) → 1 ≤ length (encode x)
+pub long : (x : Node) → 1 ≤ length (encode x)
 long (Base w) = omega arith
 long (Keep c a r o) = omega arith
 long (Pick c n cs) = omega arith
@@ -70,7 +71,7 @@ long (Both l r) = omega arith
 long (Less l r) = omega arith
 long (Total c j n cs) = omega arith
 
-nodes_next : (s k i : ℕ) (ws bytes : List ℕ) (x : Node) (rest : List ℕ) → 1 ≤ length bytes → node k ws bytes ≡ Ok (x, rest) → nodes (suc s) k i ws bytes ≡ more x (nodes s k (i + 1) (ws ++ width k ws x ∷ []) rest)
+pub nodes_next : (s k i : ℕ) (ws bytes : List ℕ) (x : Node) (rest : List ℕ) → 1 ≤ length bytes → node k ws bytes ≡ Ok (x, rest) → nodes (suc s) k i ws bytes ≡ more x (nodes s k (i + 1) (ws ++ width k ws x ∷ []) rest)
 unfolding nodes
 nodes_next s k i ws [] x rest h e = absurd (omega arith)
 nodes_next s k i ws (b ∷ bytes) x rest h e = rw e refl
@@ -90,7 +91,7 @@ nodes_read (suc s) k i ws (x ∷ xs) l e r =
     let n : 1 ≤ length (encode x ++ encode_all xs) = simp length-append (omega (arith, long x)) in
     nodes_next s k i ws (encode x ++ encode_all xs) x (encode_all xs) n (node_read k ws x (encode_all xs) p.0 r.0) ∙ ap (more x) (nodes_read s k (i + 1) vs xs (omega arith) p.1 r.1)
 
-checked_some : (k : ℕ) (bytes : List ℕ) → 1 ≤ length bytes → checked k bytes ≡ nodes 16 k 0 [] bytes
+pub checked_some : (k : ℕ) (bytes : List ℕ) → 1 ≤ length bytes → checked k bytes ≡ nodes 16 k 0 [] bytes
 checked_some k [] h = absurd (omega arith)
 checked_some k (b ∷ bytes) h = refl
 
@@ -98,82 +99,29 @@ some_node : (k b : ℕ) (bytes : List ℕ) (xs : List Node) → Whole 16 k [] (b
 some_node k b bytes [] w h = let e : ◌≡◌ {A = List ℕ} (b ∷ bytes) [] = w.code h in omega (arith, ap length e)
 some_node k b bytes (x ∷ xs) w h = omega arith
 
-accepted : (k : ℕ) (bytes : List ℕ) (xs : List Node) → Bytes bytes → checked k bytes ≡ Ok xs → LawfulPlan k xs × (bytes ≡ encode_all xs)
+pub accepted : (k : ℕ) (bytes : List ℕ) (xs : List Node) → Bytes bytes → checked k bytes ≡ Ok xs → LawfulPlan k xs × (bytes ≡ encode_all xs)
 accepted k [] xs h e = let z : ◌≡◌ {A = ℕ} 0 1 = cc in absurd (omega arith)
 accepted k (b ∷ bytes) xs h e =
     let w = whole 16 k 0 [] (b ∷ bytes) xs e in
     (record { some = some_node k b bytes xs w h; few = w.few; fit = w.fit; range = w.range h }, w.code h)
 
-some_byte : (xs : List Node) → 1 ≤ length xs → 1 ≤ length (encode_all xs)
+pub some_byte : (xs : List Node) → 1 ≤ length xs → 1 ≤ length (encode_all xs)
 some_byte [] h = absurd (omega arith)
 some_byte (x ∷ xs) h = simp length-append (omega (arith, long x))
 
-read_back : (k : ℕ) (xs : List Node) → LawfulPlan k xs → checked k (encode_all xs) ≡ Ok xs
+pub read_back : (k : ℕ) (xs : List Node) → LawfulPlan k xs → checked k (encode_all xs) ≡ Ok xs
 read_back k xs l = checked_some k (encode_all xs) (some_byte xs l.some) ∙ nodes_read 16 k 0 [] xs l.few l.fit l.range
 
 pub accepted_are_encodings : AcceptedAreEncodings
 accepted_are_encodings k bytes xs h = (accepted k bytes xs h, λ l e. ap (checked k) e ∙ read_back k xs l)
 
+pub encodings_are_accepted : EncodingsAreAccepted
+encodings_are_accepted k xs l = (plan_bytes k xs l, read_back k xs l)
+
+pub one_encoding : OneEncoding
+one_encoding k xs a b ha hb ea eb = (accepted k a xs ha ea).1 ∙ sym (accepted k b xs hb eb).1
+
 pub one_to_one : OneToOne
 one_to_one k xs ys l m e =
     let f : ◌≡◌ {A = Result (List Node) Refusal} (Ok xs) (Ok ys) = sym (read_back k xs l) ∙ (ap (checked k) e ∙ read_back k ys m) in
     cc
-
--- what a refusal says of the bytes, with nodes of the widths ws before them
-record Stopped (steps k i : ℕ) (ws bytes : List ℕ) (e : Refusal) : Type 0 where
-  number : e.number ≡ 12
-  before : List Node
-  rest : List ℕ
-  split : bytes ≡ encode_all before ++ rest
-  many : i + length before ≡ e.place.0
-  few : length before ≤ steps
-  fit : lawful k ws before ≡ true
-  range : All InRange before
-  beyond : length before ≡ steps → 1 ≤ length rest
-  none : (x : Node) (ys : List ℕ) → length before < steps → fits k (widths k ws before) x ≡ true → InRange x → rest ≡ encode x ++ ys → ⊥
-
-here : (s k i : ℕ) (ws bytes : List ℕ) (e : Refusal) (c : ℕ) → ◌≡◌ {A = Result (List Node) Refusal} (Err (refused i c)) (Err e) → ((x : Node) (ys : List ℕ) → 0 < s → fits k ws x ≡ true → InRange x → bytes ≡ encode x ++ ys → ⊥) → (0 ≡ s → 1 ≤ length bytes) → Stopped s k i ws bytes e
-unfolding lawful widths
-here s k i ws bytes e c f none beyond =
-    let g : refused i c ≡ e = cc in
-    subst (Stopped s k i ws bytes) g (record { number = refl; before = []; rest = bytes; split = refl; many = omega arith; few = omega arith; fit = refl; range = tt; beyond = beyond; none = none })
-
-stopped : (steps k i : ℕ) (ws bytes : List ℕ) (e : Refusal) → Bytes bytes → nodes steps k i ws bytes ≡ Err e → Stopped steps k i ws bytes e
-unfolding nodes lawful widths
-stopped zero k i ws [] e h f = let z : ◌≡◌ {A = ℕ} 0 1 = cc in absurd (omega arith)
-stopped (suc s) k i ws [] e h f = let z : ◌≡◌ {A = ℕ} 0 1 = cc in absurd (omega arith)
-stopped zero k i ws (b ∷ bytes) e h f = here zero k i ws (b ∷ bytes) e bad_count f (λ x ys l _ _ _. absurd (omega arith)) (λ _. omega arith)
-stopped (suc s) k i ws (b ∷ bytes) e h f = on (node k ws (b ∷ bytes)) refl f (λ j vs ys t g. stopped s k j vs ys e t g)
-  where
-    on : (d : Read Node) → node k ws (b ∷ bytes) ≡ d → next i d (λ x. nodes s k (i + 1) (ws ++ width k ws x.0 ∷ []) x.1) ≡ Err e → ((j : ℕ) (vs ys : List ℕ) → Bytes ys → nodes s k j vs ys ≡ Err e → Stopped s k j vs ys e) → Stopped (suc s) k i ws (b ∷ bytes) e
-    on (Err c) d f again =
-        here (suc s) k i ws (b ∷ bytes) e c f
-        (λ x ys l u v q. let r : node k ws (b ∷ bytes) ≡ Ok (x, ys) = ap (node k ws) q ∙ node_read k ws x ys u v in let z : ◌≡◌ {A = ℕ} 0 1 = cc in omega arith)
-        (λ _. omega arith)
-    on (Ok p) d f again =
-        let x = p.0 in
-        let vs = ws ++ width k ws x ∷ [] in
-        let w = node_was k ws (b ∷ bytes) x p.1 d in
-        let t = again (i + 1) vs p.1 (bytes_right (encode x) p.1 (subst Bytes (w.split h) h)) (more_err x (nodes s k (i + 1) vs p.1) e f) in
-        record {
-          number = t.number;
-          before = x ∷ t.before;
-          rest = t.rest;
-          split = w.split h ∙ (ap (λ ys. encode x ++ ys) t.split ∙ sym (append_assoc (encode x) (encode_all t.before) t.rest));
-          many = omega (arith, t.many);
-          few = omega (arith, t.few);
-          fit = and_from (fits k ws x) (lawful k vs t.before) w.fit t.fit;
-          range = (w.range h, t.range);
-          beyond = λ l. t.beyond (omega arith);
-          none = λ y ys l u v q. t.none y ys (omega arith) u v q;
-        }
-
-pub refused_where_broken : RefusedWhereBroken
-refused_where_broken k bytes e h f = on bytes h f
-  where
-    plain : (bs : List ℕ) → Stopped 16 k 0 [] bs e → (e.number ≡ 12) × BrokenAt k bs e.place.0
-    plain bs t = (t.number, record { whole = t.before; rest = t.rest; split = t.split; many = omega (arith, t.many); few = t.few; fit = t.fit; range = t.range; more = t.beyond; none = t.none })
-
-    on : (bs : List ℕ) → Bytes bs → checked k bs ≡ Err e → (e.number ≡ 12) × BrokenAt k bs e.place.0
-    on [] h f = plain [] (here 16 k 0 [] [] e bad_count f (λ x ys l u v q. omega (arith, long x, simp length-append at (ap length q))) (λ z. absurd (omega arith)))
-    on (b ∷ bs) h f = plain (b ∷ bs) (stopped 16 k 0 [] (b ∷ bs) e h f)

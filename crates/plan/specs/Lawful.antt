@@ -9,6 +9,7 @@
 --   fits           a node names lower nodes, its columns lie below their widths, its own width is at most 8
 --   widths         the widths of nodes that follow nodes of the widths ws
 --   lawful         each node of a list fits over those before it
+--   One-to-eight   what a width is in a lawful plan (WidthsOneToEight, a law)
 --   In-range       a constant is a signed number of 32 bits: what the type Node holds
 --   Lawful-plan    1 to 16 nodes that are lawful, under a measure that shows k columns
 use Rattle.std.specs.Prelude.{◌≡◌, ℕ, ◌+◌, ◌≤◌, Bool, true, ◌&&◌, ltb, List, [], ◌∷◌, ◌++◌, length, take, drop, FitsSigned, ◌==◌, nat_eq, nat_le, nat_lt, slice_index}
@@ -71,6 +72,10 @@ widths k ws (x ∷ xs) = widths k (ws ++ width k ws x ∷ []) xs
 unfoldable pub lawful : ℕ → List ℕ → List Node → Bool
 lawful k ws [] = true
 lawful k ws (x ∷ xs) = fits k ws x && lawful k (ws ++ width k ws x ∷ []) xs
+
+pub record OneToEight (w : ℕ) : Type 0 where
+  pub some : 1 ≤ w
+  pub narrow : w ≤ 8
 
 abbrev pub operand_in_range : Operand → Type 0
 operand_in_range (Constant v) = FitsSigned w32 v

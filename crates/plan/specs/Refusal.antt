@@ -6,7 +6,8 @@
 --   fault-at       the fault of a cause at a node
 --   plan-refusal   number and place of each fault
 --   plan-told      a checker's answer with its fault as number and place
-use Rattle.std.specs.Prelude.{ℕ, Ok, Err, Result}
+--   plan-text      what is printed of a fault: `plan refused 12 at`, the node and the cause
+use Rattle.std.specs.Prelude.{ℕ, List, ◌++◌, Ok, Err, Result, codes, decimal}
 use Rattle.plan.specs.declared.fault.Cause.{Cause}
 use Rattle.plan.specs.declared.fault.Cause.TheVariants.{Missing, Value, Lower, Column, Width, Nodes}
 use Rattle.plan.specs.declared.fault.PlanFault.{PlanFault}
@@ -35,3 +36,7 @@ plan_refusal f = refused f.node (cause_number f.cause)
 abbrev pub plan_told : {X : Type 0} → Result X PlanFault → Result X Refusal
 plan_told (Ok x) = Ok x
 plan_told (Err fault) = Err (plan_refusal fault)
+
+abbrev pub plan_text : PlanFault → List ℕ
+plan_text f =
+    codes "plan refused " ++ (decimal (plan_refusal f).number ++ (codes " at " ++ (decimal f.node ++ (codes " " ++ decimal (cause_number f.cause)))))

@@ -4,12 +4,16 @@
 --   Operand-below   an operand that is a column lies below a width
 --   Base-sound, Keep-sound, Pick-sound, Pair-sound, Sides-sound, Total-sound   the facts of one operator
 --   Sound           the facts of a node
-use Rattle.std.specs.Prelude.{◌≡◌, ℕ, ◌+◌, ◌<◌, ◌≤◌, List, slice_index, slice_index_or}
+--   Keep-handed, Pick-handed, Pair-handed, Sides-handed, Total-handed   more facts of one operator
+--   Handed          what more is handed to the users with a node: `wide` of the nodes that it names: their rows are 1 to 8 wide;
+--                   `places` of its list: how many there are, of which the first n count; of a base, its own width is 1 to 8
+use Rattle.std.specs.Prelude.{◌≡◌, ℕ, ◌+◌, ◌<◌, ◌≤◌, List, length, slice_index, slice_index_or}
 use Rattle.bag.specs.declared.condition.Operand.{Operand}
 use Rattle.bag.specs.declared.condition.Operand.TheVariants.{Constant, Column}
 use Rattle.plan.specs.declared.node.ColumnPair.{ColumnPair}
 use Rattle.plan.specs.declared.node.Node.{Node}
 use Rattle.plan.specs.declared.node.Node.TheVariants.{Base, Keep, Pick, Pair, Both, Less, Total}
+use Rattle.plan.specs.Lawful.{OneToEight}
 use Rattle.plan.specs.Fields.{no_pair}
 
 abbrev pub ColumnsBelow : ℕ → List ℕ → ℕ → Type 0
@@ -62,3 +66,32 @@ Sound k ws i (Pair l r n pairs) = PairSound ws i l r n pairs
 Sound k ws i (Both l r) = SidesSound ws i l r
 Sound k ws i (Less l r) = SidesSound ws i l r
 Sound k ws i (Total c j n columns) = TotalSound k ws i c j n columns
+
+pub record KeepHanded (ws : List ℕ) (c : ℕ) : Type 0 where
+  pub wide : OneToEight (slice_index ws c)
+
+pub record PickHanded (ws : List ℕ) (c : ℕ) (columns : List ℕ) : Type 0 where
+  pub wide : OneToEight (slice_index ws c)
+  pub places : length columns ≡ 8
+
+pub record PairHanded (ws : List ℕ) (l r : ℕ) (pairs : List ColumnPair) : Type 0 where
+  pub left_wide : OneToEight (slice_index ws l)
+  pub right_wide : OneToEight (slice_index ws r)
+  pub places : length pairs ≡ 4
+
+pub record SidesHanded (ws : List ℕ) (l r : ℕ) : Type 0 where
+  pub left_wide : OneToEight (slice_index ws l)
+  pub right_wide : OneToEight (slice_index ws r)
+
+pub record TotalHanded (ws : List ℕ) (c : ℕ) (columns : List ℕ) : Type 0 where
+  pub wide : OneToEight (slice_index ws c)
+  pub places : length columns ≡ 8
+
+abbrev pub Handed : ℕ → List ℕ → ℕ → Node → Type 0
+Handed k ws i (Base w) = OneToEight w
+Handed k ws i (Keep c a relation operand) = KeepHanded ws c
+Handed k ws i (Pick c n columns) = PickHanded ws c columns
+Handed k ws i (Pair l r n pairs) = PairHanded ws l r pairs
+Handed k ws i (Both l r) = SidesHanded ws l r
+Handed k ws i (Less l r) = SidesHanded ws l r
+Handed k ws i (Total c j n columns) = TotalHanded ws c columns

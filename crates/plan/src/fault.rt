@@ -1,5 +1,7 @@
-ghost use Rattle.std.specs.Prelude.{◌≡◌};
-ghost use Rattle.plan.specs.Refusal.{cause_number, fault_at, plan_refusal};
+ghost use Rattle.std.specs.Prelude.{◌≡◌, Some};
+ghost use Rattle.plan.specs.Refusal.{cause_number, fault_at, plan_refusal, plan_text};
+
+use std::fmt;
 
 // Why bytes are no plan.
 #[derive(Clone, Copy)]
@@ -58,5 +60,16 @@ impl PlanFault {
         ensures { result ≡ (plan_refusal self.now).place }
     {
         (self.node, self.cause.number())
+    }
+}
+
+// The refusal as programs print it.
+impl fmt::Display for PlanFault {
+    ghost output = { λ f. Some (plan_text f) };
+
+    fn fmt<W: fmt::Write>(&self, f: &mut fmt::Formatter<W>) -> fmt::Result {
+        let number = self.number();
+        let (node, cause) = self.place();
+        write!(f, "plan refused {number} at {node} {cause}")
     }
 }

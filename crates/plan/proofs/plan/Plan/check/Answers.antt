@@ -1,14 +1,17 @@
-use Rattle.std.proofs.Common.{◌≡◌, ◌-◌, ◌<◌, min, List, [], length, take, Ok, Err, Result, sym, refl, ap, ◌∙◌, subst, arith, length-set}
+use Rattle.std.proofs.Common.{◌≡◌, ◌-◌, ◌<◌, min, List, [], length, take, Ok, Err, Result, sym, refl, ap, ◌∙◌, subst, arith, length-set, rules}
+use Rattle.std.proofs.ByRecursion.{All-from_get_or}
 use Rattle.std.proofs.lemmas.List.{take_more_set}
+use Rattle.bag.specs.Bytes.{Bytes}
 use Rattle.plan.specs.Refusal.{Refusal, cause_number, plan_refusal}
 use Rattle.plan.specs.declared.fault.PlanFault.{PlanFault}
 use Rattle.plan.specs.declared.node.Node.{Node}
 use Rattle.plan.specs.Lawful.{width}
 use Rattle.plan.specs.Check.{node, nodes, checked}
+use Rattle.plan.proofs.Breaks.{plan_or_broken}
 use Rattle.plan.proofs.Growth.{lawful_none, widths_none, grown_lawful, grown_wide}
 use Rattle.plan.proofs.Nodes.{node_was}
 use Rattle.plan.proofs.Shown.{checked_kept}
-use Rattle.plan.proofs.Taken.{after, after_none, checked_is, nodes_full, nodes_stop, step_again, end_again}
+use Rattle.plan.proofs.Taken.{after, after_none, checked_is, checked_none, nodes_full, nodes_stop, step_again, end_again}
 use Rattle.plan.proofs.plan.Plan.check.Goals as goal
 
 pub loop-rest-init : goal.loop-rest-init
@@ -21,6 +24,16 @@ loop-rest-init c =
 abbrev told : PlanFault → Result (List Node) Refusal
 told f = Err (plan_refusal f)
 
+abbrev refused : PlanFault → Result (List Node) PlanFault
+refused f = Err f
+
+pub returns-then-bytes-eq0 : goal.returns-then-bytes-eq0
+returns-then-bytes-eq0 c =
+    let b = c.args.bytes.now in
+    let h : Bytes b = All-from_get_or _ b 0 (λ i m. search rules) in
+    let a = ap told c.at.ensures ∙ sym (checked_none c.args.shown b (omega arith)) in
+    record { answer = a; meaning = plan_or_broken c.args.shown b (refused c.at.result) h a; shown = tt }
+
 pub returns-then-len-ge16 : goal.returns-then-len-ge16
 returns-then-len-ge16 c =
     let l = c.loop-rest in
@@ -28,7 +41,9 @@ returns-then-len-ge16 c =
     let b = c.args.bytes.now in
     let z : k ≡ min c.args.shown 8 = c.min-showing.ensures in
     let e = sym (ap (after (take l.len l.nodes)) (nodes_full k l.len (take l.len l.widths) l.rest.now (omega arith) (omega arith))) ∙ (l.invariant.6 ∙ (ap (λ n. checked n b) z ∙ checked_kept c.args.shown b)) in
-    record { answer = ap told c.at-then-len-ge16.ensures ∙ e; shown = tt }
+    let h : Bytes b = All-from_get_or _ b 0 (λ i m. search rules) in
+    let a = ap told c.at-then-len-ge16.ensures ∙ e in
+    record { answer = a; meaning = plan_or_broken c.args.shown b (refused c.at-then-len-ge16.result) h a; shown = tt }
 
 pub returns-in-Err : goal.returns-in-Err
 returns-in-Err c =
@@ -40,7 +55,9 @@ returns-in-Err c =
     let n : l.len - 0 ≡ l.len = omega arith in
     let e : node k (take l.len l.widths) l.rest.now ≡ Err cause = subst (λ m. node k (take m l.widths) l.rest.now ≡ Err cause) n c.in-Err.ensures.is in
     let f = sym (ap (after (take l.len l.nodes)) (nodes_stop k l.len (take l.len l.widths) l.rest.now cause (omega arith) (omega arith) e)) ∙ (l.invariant.6 ∙ (ap (λ n. checked n b) z ∙ checked_kept c.args.shown b)) in
-    record { answer = ap told c.at-in-Err.ensures ∙ f; shown = tt }
+    let h : Bytes b = All-from_get_or _ b 0 (λ i m. search rules) in
+    let a = ap told c.at-in-Err.ensures ∙ f in
+    record { answer = a; meaning = plan_or_broken c.args.shown b (refused c.at-in-Err.result) h a; shown = tt }
 
 pub width-requires : goal.width-requires
 width-requires c =
@@ -78,4 +95,5 @@ returns c =
     let b = c.args.bytes.now in
     let z : k ≡ min c.args.shown 8 = c.min-showing.ensures in
     let e = sym (end_again k l.len (take l.len l.nodes) (take l.len l.widths) l.rest.now (omega arith)) ∙ (l.invariant.6 ∙ (ap (λ n. checked n b) z ∙ checked_kept c.args.shown b)) in
-    record { answer = e; shown = z }
+    let h : Bytes b = All-from_get_or _ b 0 (λ i m. search rules) in
+    record { answer = e; meaning = plan_or_broken c.args.shown b (Ok (take l.len l.nodes)) h e; shown = z }
