@@ -12,8 +12,8 @@
 --   Encodings-are-accepted   the encoding of a lawful plan is bytes, and checking it gives that plan back
 --   One-encoding             a plan has one encoding: bytes that are accepted as the same plan are equal
 --   Breaks-at                as Broken-at, and something is left behind the whole nodes, unless there is no byte at all
---   Refused-there            every refusal has the number 12, and the bytes break at its node
---   Broken-are-refused       bytes that break at a node are refused there, with the number 12
+--   Refused-there            every refusal is that of a fault: the number 12, a node and the number of a cause; the bytes break there
+--   Broken-are-refused       bytes that break at a node are refused there
 --   Plan-or-broken           what an answer of checking means: the nodes of the plan that the bytes encode, or where they break
 --   Never-both               neither accepted bytes nor the encoding of a lawful plan break anywhere
 --   Widths-one-to-eight      the rows of every node of a lawful plan are 1 to 8 wide
@@ -21,7 +21,7 @@ use Rattle.std.specs.Prelude.{◌≡◌, ℕ, ◌<◌, ◌≤◌, true, List, []
 use Rattle.std.specs.List.{AllByRecursion as All}
 use Rattle.plan.specs.declared.fault.PlanFault.{PlanFault}
 use Rattle.plan.specs.declared.node.Node.{Node}
-use Rattle.plan.specs.Refusal.{Refusal}
+use Rattle.plan.specs.Refusal.{Refusal, plan_refusal}
 use Rattle.plan.specs.Lawful.{fits, widths, lawful, OneToEight, InRange, LawfulPlan}
 use Rattle.plan.specs.Check.{checked}
 use Rattle.bag.specs.Bytes.{Bytes}
@@ -75,12 +75,12 @@ pub record BreaksAt (k : ℕ) (bytes : List ℕ) (node : ℕ) : Type 0 where
 abbrev pub RefusedThere : Type 0
 RefusedThere =
     (k : ℕ) (bytes : List ℕ) (e : Refusal) → Bytes bytes → checked k bytes ≡ Err e →
-    (e.number ≡ 12) × BreaksAt k bytes e.place.0
+    (f : PlanFault) × (e ≡ plan_refusal f) × BreaksAt k bytes f.node
 
 abbrev pub BrokenAreRefused : Type 0
 BrokenAreRefused =
     (k : ℕ) (bytes : List ℕ) (node : ℕ) → Bytes bytes → BreaksAt k bytes node →
-    (e : Refusal) × (checked k bytes ≡ Err e) × (e.number ≡ 12) × (e.place.0 ≡ node)
+    (f : PlanFault) × (checked k bytes ≡ Err (plan_refusal f)) × (f.node ≡ node)
 
 abbrev pub PlanOrBroken : ℕ → List ℕ → Result (List Node) PlanFault → Type 0
 PlanOrBroken k bytes (Ok xs) = LawfulPlan k xs × (bytes ≡ encode_all xs)
