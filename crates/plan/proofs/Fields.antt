@@ -8,11 +8,9 @@ use Rattle.bag.specs.declared.condition.Operand.{Operand}
 use Rattle.bag.specs.declared.condition.Operand.TheVariants.{Constant, Column}
 use Rattle.bag.specs.declared.condition.Relation.{Relation}
 use Rattle.bag.specs.declared.condition.Relation.TheVariants.{Less, LessOrEqual, Equal, NotEqual, GreaterOrEqual, Greater}
-use Rattle.plan.specs.declared.fault.Cause.{Cause}
-use Rattle.plan.specs.declared.fault.Cause.TheVariants as causes
 use Rattle.plan.specs.declared.node.ColumnPair.{ColumnPair}
 use Rattle.plan.specs.Lawful.{columns_fit, pair_fits, pair_blank, pairs_fit, operand_fits, operand_in_range}
-use Rattle.plan.specs.Fields.{then, when, octet, lower, column, within, relation, word, operand, columns, column_pair, no_pair, pairs}
+use Rattle.plan.specs.Fields.{then, when, octet, lower, column, within, relation, word, operand, columns, column_pair, no_pair, pairs, outside, not_lower, past_width}
 use Rattle.bag.specs.Bytes.{in_four, Bytes}
 use Rattle.plan.specs.Encode.{relation_number, operand_bytes, pair_bytes}
 use Rattle.plan.proofs.Items.{then_ok, when_ok, ok_same, listed_was, listed_read}
@@ -22,23 +20,23 @@ octet_was [] p e = let z : ◌≡◌ {A = ℕ} 0 1 = cc in absurd (omega arith)
 octet_was (b ∷ bytes) p e = ap (λ (q : ℕ × List ℕ). q.0 ∷ q.1) (ok_same (b, bytes) p e)
 
 -- a byte under a test
-tested_was : (test : ℕ → Bool) (cause : Cause) (bytes : List ℕ) (p : ℕ × List ℕ) → then (octet bytes) (λ (q : ℕ × List ℕ). when (test q.0) cause q) ≡ Ok p → (bytes ≡ p.0 ∷ p.1) × (test p.0 ≡ true)
+tested_was : (test : ℕ → Bool) (cause : ℕ) (bytes : List ℕ) (p : ℕ × List ℕ) → then (octet bytes) (λ (q : ℕ × List ℕ). when (test q.0) cause q) ≡ Ok p → (bytes ≡ p.0 ∷ p.1) × (test p.0 ≡ true)
 tested_was test cause bytes p e =
     let a = then_ok (octet bytes) (λ (q : ℕ × List ℕ). when (test q.0) cause q) p e in
     let b = when_ok (test a.0.0) cause a.0 p a.2 in
     (octet_was bytes p (a.1 ∙ ap Ok b.1), subst (λ (q : ℕ × List ℕ). test q.0 ≡ true) b.1 b.0)
 
 pub lower_was : (ws bytes : List ℕ) (p : ℕ × List ℕ) → lower ws bytes ≡ Ok p → (bytes ≡ p.0 ∷ p.1) × (ltb p.0 (length ws) ≡ true)
-lower_was ws bytes p e = tested_was (λ c. ltb c (length ws)) causes.Lower bytes p e
+lower_was ws bytes p e = tested_was (λ c. ltb c (length ws)) not_lower bytes p e
 
 pub column_was : (w : ℕ) (bytes : List ℕ) (p : ℕ × List ℕ) → column w bytes ≡ Ok p → (bytes ≡ p.0 ∷ p.1) × (ltb p.0 w ≡ true)
-column_was w bytes p e = tested_was (λ c. ltb c w) causes.Column bytes p e
+column_was w bytes p e = tested_was (λ c. ltb c w) past_width bytes p e
 
 pub within_was : (a b : ℕ) (bytes : List ℕ) (p : ℕ × List ℕ) → within a b bytes ≡ Ok p → (bytes ≡ p.0 ∷ p.1) × ((leb a p.0 && leb p.0 b) ≡ true)
-within_was a b bytes p e = tested_was (λ n. leb a n && leb n b) causes.Value bytes p e
+within_was a b bytes p e = tested_was (λ n. leb a n && leb n b) outside bytes p e
 
 -- cases of a byte that names one of a list
-pub by_number : {X : Type 0} (b n : ℕ) (x y : Result X Cause) (z : X) (P : Type 0) → cond (eqb b n) x y ≡ Ok z → (b ≡ n → x ≡ Ok z → P) → (y ≡ Ok z → P) → P
+pub by_number : {X : Type 0} (b n : ℕ) (x y : Result X ℕ) (z : X) (P : Type 0) → cond (eqb b n) x y ≡ Ok z → (b ≡ n → x ≡ Ok z → P) → (y ≡ Ok z → P) → P
 by_number b n x y z P e here other = on (eqb b n) refl e
   where
     on : (t : Bool) → eqb b n ≡ t → cond t x y ≡ Ok z → P
@@ -48,7 +46,7 @@ by_number b n x y z P e here other = on (eqb b n) refl e
 pub relation_was : (b : ℕ) (r : Relation) → relation b ≡ Ok r → b ≡ relation_number r
 relation_was b r e =
     let P : Type 0 = b ≡ relation_number r in
-    let is : (n : ℕ) (s : Relation) → relation_number s ≡ n → b ≡ n → ◌≡◌ {A = Result Relation Cause} (Ok s) (Ok r) → b ≡ relation_number r = λ n s f g h. g ∙ (sym f ∙ ap relation_number (ok_same s r h)) in
+    let is : (n : ℕ) (s : Relation) → relation_number s ≡ n → b ≡ n → ◌≡◌ {A = Result Relation ℕ} (Ok s) (Ok r) → b ≡ relation_number r = λ n s f g h. g ∙ (sym f ∙ ap relation_number (ok_same s r h)) in
     by_number b 0 _ _ r P e (is 0 Less refl)
     (λ e1. by_number b 1 _ _ r P e1 (is 1 LessOrEqual refl)
     (λ e2. by_number b 2 _ _ r P e2 (is 2 Equal refl)

@@ -1,7 +1,6 @@
 -- A list of fields of one kind, read one by one into places that were blank.
 use Rattle.std.proofs.Common.{◌≡◌, ℕ, suc, ◌+◌, ◌-◌, ◌<◌, ◌≤◌, List, [], ◌∷◌, ◌++◌, length, take, drop, set, replicate, Ok, Err, sym, refl, ap, ◌∙◌, append_assoc, append-nil, arith}
 use Rattle.std.proofs.lemmas.List.{length-set, length-replicate, length-take-le, take_more_set, take-append-drop, drop-set-lt, drop-drop, drop-replicate}
-use Rattle.plan.specs.declared.fault.Cause.{Cause}
 use Rattle.plan.specs.Fields.{Read, then, items, padded, listed}
 
 abbrev pub before : {X : Type 0} → List X → Read (List X) → Read (List X)
@@ -25,7 +24,7 @@ module _ {X : Type 0} (reader : List ℕ → Read X) where
       on (Ok l) = refl
       on (Err e) = refl
 
-  items_stop : (n : ℕ) (bytes : List ℕ) (e : Cause) → reader bytes ≡ Err e → items reader (suc n) bytes ≡ Err e
+  items_stop : (n : ℕ) (bytes : List ℕ) (e : ℕ) → reader bytes ≡ Err e → items reader (suc n) bytes ≡ Err e
   unfolding items
   items_stop n bytes e f = rw f refl
 
@@ -67,7 +66,7 @@ module _ {X : Type 0} (reader : List ℕ → Read X) where
             left = omega (arith, f.left);
           }
 
-      pub filling_stop : (e : Cause) → i < n → reader rest ≡ Err e → listed size blank (items reader n bytes) ≡ Err e
+      pub filling_stop : (e : ℕ) → i < n → reader rest ≡ Err e → listed size blank (items reader n bytes) ≡ Err e
       filling_stop e h g =
           let s : n - i ≡ suc (n - (i + 1)) = omega arith in
           let o : items reader (n - i) rest ≡ Err e = ap (λ k. items reader k rest) s ∙ items_stop (n - (i + 1)) rest e g in

@@ -1,22 +1,21 @@
 -- Fields of one kind, read from bytes that were written, and bytes that were read.
-use Rattle.std.proofs.Common.{◌≡◌, ℕ, zero, suc, ◌+◌, ◌-◌, ◌≤◌, Bool, true, false, eqb, List, [], ◌∷◌, ◌++◌, length, take, drop, replicate, Ok, Err, Result, sym, refl, ap, ◌∙◌, subst, append_assoc, arith, length-append}
+use Rattle.std.proofs.Common.{◌≡◌, ℕ, zero, suc, ◌-◌, ◌≤◌, Bool, true, false, eqb, List, [], ◌∷◌, ◌++◌, length, take, drop, replicate, Ok, Err, Result, sym, refl, ap, ◌∙◌, subst, append_assoc, arith, length-append}
 use Rattle.std.specs.List.{flat_map}
 use Rattle.std.proofs.lemmas.List.{length-replicate, length-take-le, length-drop, take_at, drop_at, take-append-drop}
 use Rattle.std.proofs.lemmas.Bool.{and_parts, and_from, eqb-true, eq-eqb}
-use Rattle.plan.specs.declared.fault.Cause.{Cause}
 use Rattle.plan.specs.Lawful.{every, list_fits}
 use Rattle.plan.specs.Fields.{Read, then, when, items, padded, listed}
 
 -- what was read before a good answer
-pub then_ok : {X Y : Type 0} (r : Result X Cause) (f : X → Result Y Cause) (y : Y) → then r f ≡ Ok y → (x : X) × (r ≡ Ok x) × (f x ≡ Ok y)
+pub then_ok : {X Y : Type 0} (r : Result X ℕ) (f : X → Result Y ℕ) (y : Y) → then r f ≡ Ok y → (x : X) × (r ≡ Ok x) × (f x ≡ Ok y)
 then_ok (Ok x) f y e = (x, refl, e)
 then_ok (Err c) f y e = let z : ◌≡◌ {A = ℕ} 0 1 = cc in absurd (omega arith)
 
-pub when_ok : {X : Type 0} (b : Bool) (c : Cause) (x y : X) → when b c x ≡ Ok y → (b ≡ true) × (x ≡ y)
+pub when_ok : {X : Type 0} (b : Bool) (c : ℕ) (x y : X) → when b c x ≡ Ok y → (b ≡ true) × (x ≡ y)
 when_ok true c x y e = (refl, cc)
 when_ok false c x y e = let z : ◌≡◌ {A = ℕ} 0 1 = cc in absurd (omega arith)
 
-pub ok_same : {X : Type 0} (x y : X) → ◌≡◌ {A = Result X Cause} (Ok x) (Ok y) → x ≡ y
+pub ok_same : {X : Type 0} (x y : X) → ◌≡◌ {A = Result X ℕ} (Ok x) (Ok y) → x ≡ y
 ok_same x y e = cc
 
 every_blank : {X : Type 0} (blank : X → Bool) (b : X) → blank b ≡ true → (n : ℕ) → every blank (replicate n b) ≡ true

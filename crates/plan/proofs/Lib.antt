@@ -7,6 +7,7 @@ pub mod Fields
 pub mod Nodes
 pub mod Codes
 pub mod Wholes
+pub mod Causes
 pub mod Breaks
 pub mod Shown
 pub mod Sounds

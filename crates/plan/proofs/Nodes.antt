@@ -1,11 +1,10 @@
 -- One node, there and back.
 use Rattle.std.proofs.Common.{◌≡◌, ℕ, ◌+◌, ◌≤◌, true, ◌&&◌, eqb, ltb, leb, List, ◌∷◌, ◌++◌, length, get_or, Ok, sym, refl, ap, ◌∙◌, subst, arith}
 use Rattle.std.proofs.lemmas.Bool.{and_parts, and_from, leb-true, le-leb}
-use Rattle.plan.specs.declared.fault.Cause.TheVariants as causes
 use Rattle.plan.specs.declared.node.Node.{Node}
 use Rattle.plan.specs.declared.node.Node.TheVariants.{Base, Keep, Pick, Pair, Both, Less, Total}
 use Rattle.plan.specs.Lawful.{fits, columns_fit, pairs_fit, operand_fits, InRange}
-use Rattle.plan.specs.Fields.{octet, lower, column, within, relation, operand, columns, pairs}
+use Rattle.plan.specs.Fields.{octet, lower, column, within, relation, operand, columns, pairs, bad_width}
 use Rattle.plan.specs.Check.{base, keep, pick, pair, equal_sides, both, less, total, behind, node}
 use Rattle.bag.specs.Bytes.{Bytes}
 use Rattle.plan.specs.Encode.{relation_number, encode}
@@ -74,7 +73,7 @@ pair_was k ws bytes p e =
     let wr = get_or ws b.0.0 0 in
     let d = then_ok (within 0 4 b.0.1) _ p b.2 in
     let g = then_ok (pairs d.0.0 wl wr d.0.1) _ p d.2 in
-    let h = when_ok (leb (wl + wr) 8) causes.Width (Pair a.0.0 b.0.0 d.0.0 g.0.0, g.0.1) p g.2 in
+    let h = when_ok (leb (wl + wr) 8) bad_width (Pair a.0.0 b.0.0 d.0.0 g.0.0, g.0.1) p g.2 in
     let a' = lower_was ws bytes a.0 a.1 in
     let b' = lower_was ws a.0.1 b.0 b.1 in
     let d' = within_was 0 4 b.0.1 d.0 d.1 in
@@ -86,29 +85,29 @@ pair_was k ws bytes p e =
       range = λ s. tt;
     })
 
-sides_was : (ws bytes : List ℕ) (p : (ℕ × ℕ) × List ℕ) → equal_sides ws bytes ≡ Ok p → (bytes ≡ p.0.0 ∷ p.0.1 ∷ p.1) × ((ltb p.0.0 (length ws) && (ltb p.0.1 (length ws) && eqb (get_or ws p.0.0 0) (get_or ws p.0.1 0))) ≡ true)
+sides_was : (ws bytes : List ℕ) (p : ℕ × ℕ × List ℕ) → equal_sides ws bytes ≡ Ok p → (bytes ≡ p.0 ∷ p.1 ∷ p.2) × ((ltb p.0 (length ws) && (ltb p.1 (length ws) && eqb (get_or ws p.0 0) (get_or ws p.1 0))) ≡ true)
 sides_was ws bytes p e =
     let a = then_ok (lower ws bytes) _ p e in
     let b = then_ok (lower ws a.0.1) _ p a.2 in
     let same = eqb (get_or ws a.0.0 0) (get_or ws b.0.0 0) in
-    let h = when_ok same causes.Width ((a.0.0, b.0.0), b.0.1) p b.2 in
+    let h = when_ok same bad_width (a.0.0, b.0.0, b.0.1) p b.2 in
     let a' = lower_was ws bytes a.0 a.1 in
     let b' = lower_was ws a.0.1 b.0 b.1 in
-    subst (λ (q : (ℕ × ℕ) × List ℕ). (bytes ≡ q.0.0 ∷ q.0.1 ∷ q.1) × ((ltb q.0.0 (length ws) && (ltb q.0.1 (length ws) && eqb (get_or ws q.0.0 0) (get_or ws q.0.1 0))) ≡ true)) h.1
+    subst (λ (q : ℕ × ℕ × List ℕ). (bytes ≡ q.0 ∷ q.1 ∷ q.2) × ((ltb q.0 (length ws) && (ltb q.1 (length ws) && eqb (get_or ws q.0 0) (get_or ws q.1 0))) ≡ true)) h.1
     (a'.0 ∙ ap (λ ys. a.0.0 ∷ ys) b'.0, and_from (ltb a.0.0 (length ws)) _ a'.1 (and_from (ltb b.0.0 (length ws)) same b'.1 h.0))
 
 both_was : (k : ℕ) (ws bytes : List ℕ) (p : Node × List ℕ) → both ws bytes ≡ Ok p → Was k ws (4 ∷ bytes) p.0 p.1
 both_was k ws bytes p e =
     let a = then_ok (equal_sides ws bytes) _ p e in
     let t = sides_was ws bytes a.0 a.1 in
-    subst (λ (q : Node × List ℕ). Was k ws (4 ∷ bytes) q.0 q.1) (ok_same (Both a.0.0.0 a.0.0.1, a.0.1) p a.2)
+    subst (λ (q : Node × List ℕ). Was k ws (4 ∷ bytes) q.0 q.1) (ok_same (Both a.0.0 a.0.1, a.0.2) p a.2)
     (record { fit = t.1; split = λ s. ap (λ ys. 4 ∷ ys) t.0; range = λ s. tt })
 
 less_was : (k : ℕ) (ws bytes : List ℕ) (p : Node × List ℕ) → less ws bytes ≡ Ok p → Was k ws (5 ∷ bytes) p.0 p.1
 less_was k ws bytes p e =
     let a = then_ok (equal_sides ws bytes) _ p e in
     let t = sides_was ws bytes a.0 a.1 in
-    subst (λ (q : Node × List ℕ). Was k ws (5 ∷ bytes) q.0 q.1) (ok_same (Less a.0.0.0 a.0.0.1, a.0.1) p a.2)
+    subst (λ (q : Node × List ℕ). Was k ws (5 ∷ bytes) q.0 q.1) (ok_same (Less a.0.0 a.0.1, a.0.2) p a.2)
     (record { fit = t.1; split = λ s. ap (λ ys. 5 ∷ ys) t.0; range = λ s. tt })
 
 total_was : (k : ℕ) (ws bytes : List ℕ) (p : Node × List ℕ) → total k ws bytes ≡ Ok p → Was k ws (6 ∷ bytes) p.0 p.1
@@ -118,7 +117,7 @@ total_was k ws bytes p e =
     let b = then_ok (column w a.0.1) _ p a.2 in
     let d = then_ok (within 0 7 b.0.1) _ p b.2 in
     let g = then_ok (columns d.0.0 w d.0.1) _ p d.2 in
-    let h = when_ok (leb (d.0.0 + 1 + k) 8) causes.Width (Total a.0.0 b.0.0 d.0.0 g.0.0, g.0.1) p g.2 in
+    let h = when_ok (leb (d.0.0 + 1 + k) 8) bad_width (Total a.0.0 b.0.0 d.0.0 g.0.0, g.0.1) p g.2 in
     let a' = lower_was ws bytes a.0 a.1 in
     let b' = column_was w a.0.1 b.0 b.1 in
     let d' = within_was 0 7 b.0.1 d.0 d.1 in

@@ -1,16 +1,14 @@
 -- A measure that shows more than 8 columns leaves no room for a total, and neither does one that shows 8.
 use Rattle.std.proofs.Common.{◌≡◌, ℕ, zero, suc, ◌+◌, ◌<◌, ◌≤◌, min, true, ltb, leb, List, [], ◌∷◌, ◌++◌, length, get_or, Ok, Err, Result, sym, refl, ap, ◌∙◌, ⊎_elim, arith}
 use Rattle.std.proofs.lemmas.Bool.{and_parts, leb-true, lt-leb, cases_lt}
-use Rattle.plan.specs.declared.fault.Cause.{Cause}
-use Rattle.plan.specs.declared.fault.Cause.TheVariants as causes
 use Rattle.plan.specs.declared.node.Node.{Node}
 use Rattle.plan.specs.declared.node.Node.TheVariants.{Base, Keep, Pick, Pair, Both, Less, Total}
 use Rattle.plan.specs.Lawful.{width, fits, columns_fit}
-use Rattle.plan.specs.Fields.{Read, then, when, octet, lower, column, within, columns}
+use Rattle.plan.specs.Fields.{Read, then, when, octet, lower, column, within, columns, bad_width}
 use Rattle.plan.specs.Check.{total, behind, node, more, next, nodes, checked, kept}
 use Rattle.plan.proofs.Nodes.{node_was}
 
-then_same : {X Y : Type 0} (r : Result X Cause) (f g : X → Result Y Cause) → ((x : X) → f x ≡ g x) → then r f ≡ then r g
+then_same : {X Y : Type 0} (r : Result X ℕ) (f g : X → Result Y ℕ) → ((x : X) → f x ≡ g x) → then r f ≡ then r g
 then_same (Ok x) f g e = e x
 then_same (Err c) f g e = refl
 
@@ -20,7 +18,7 @@ no_room k n h = lt-leb (n + 1 + k) 8 (omega arith) ∙ sym (lt-leb (n + 1 + 8) 8
 module _ (k : ℕ) (many : 8 < k) where
   total_same : (ws bytes : List ℕ) → total k ws bytes ≡ total 8 ws bytes
   total_same ws bytes =
-      then_same (lower ws bytes) _ _ (λ c. then_same (column (get_or ws c.0 0) c.1) _ _ (λ j. then_same (within 0 7 j.1) _ _ (λ n. then_same (columns n.0 (get_or ws c.0 0) n.1) _ _ (λ l. ap (λ b. when b causes.Width (Total c.0 j.0 n.0 l.0, l.1)) (no_room k n.0 many)))))
+      then_same (lower ws bytes) _ _ (λ c. then_same (column (get_or ws c.0 0) c.1) _ _ (λ j. then_same (within 0 7 j.1) _ _ (λ n. then_same (columns n.0 (get_or ws c.0 0) n.1) _ _ (λ l. ap (λ b. when b bad_width (Total c.0 j.0 n.0 l.0, l.1)) (no_room k n.0 many)))))
 
   behind_same : (ws : List ℕ) (op : ℕ) (bytes : List ℕ) → behind k ws op bytes ≡ behind 8 ws op bytes
   behind_same ws op bytes = rw (total_same ws bytes) refl

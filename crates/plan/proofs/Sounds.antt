@@ -10,7 +10,7 @@ use Rattle.plan.specs.declared.node.Node.{Node}
 use Rattle.plan.specs.declared.node.Node.TheVariants.{Base, Keep, Pick, Pair, Both, Less, Total}
 use Rattle.plan.specs.Lawful.{width, every, list_fits, columns_fit, pair_fits, pairs_fit, operand_fits, fits, widths, lawful, OneToEight}
 use Rattle.plan.specs.Fields.{no_pair}
-use Rattle.plan.specs.Sound.{ColumnsBelow, OperandBelow, Sound}
+use Rattle.plan.specs.Sound.{ColumnsBelow, OperandBelow, Sound, Handed}
 use Rattle.plan.proofs.Growth.{widths_push, widths_length, lawful_at, widths_take, Narrow, narrow_none, widths_narrow, widths_one_to_eight}
 
 every_at : {X : Type 0} (test : X → Bool) (xs : List X) → every test xs ≡ true → (j : ℕ) (d : X) → j < length xs → test (get_or xs j d) ≡ true
@@ -40,15 +40,12 @@ operand_below : (o : Operand) (w : ℕ) → operand_fits w o ≡ true → Operan
 operand_below (Constant v) w e = tt
 operand_below (Column b) w e = ltb-true b w e
 
-module _ (k : ℕ) (ws : List ℕ) (i : ℕ) (inside : i ≤ length ws) (thin : Narrow ws) where
+module _ (k : ℕ) (ws : List ℕ) (i : ℕ) (inside : i ≤ length ws) where
   lower : (c : ℕ) → ltb c (length (take i ws)) ≡ true → c < i
   lower c e = let l = length-take-le i ws inside in let m = ltb-true c (length (take i ws)) e in omega arith
 
   at : (c : ℕ) → c < i → get_or (take i ws) c 0 ≡ get_or ws c 0
   at c h = get_or-take i ws c 0 h
-
-  wide : (c : ℕ) → c < i → OneToEight (get_or ws c 0)
-  wide c h = thin c (omega arith)
 
   fits_sound : (x : Node) → fits k (take i ws) x ≡ true → Sound k ws i x
   fits_sound (Base w) e =
@@ -60,7 +57,6 @@ module _ (k : ℕ) (ws : List ℕ) (i : ℕ) (inside : i ≤ length ws) (thin : 
       let h = lower c p.0 in
       record {
         lower = h;
-        wide = wide c h;
         column = subst (λ w. a < w) (at c h) (ltb-true a (get_or (take i ws) c 0) q.0);
         other = subst (OperandBelow o) (at c h) (operand_below o (get_or (take i ws) c 0) q.1);
       }
@@ -71,10 +67,8 @@ module _ (k : ℕ) (ws : List ℕ) (i : ℕ) (inside : i ≤ length ws) (thin : 
       let h = lower c p.0 in
       record {
         lower = h;
-        wide = wide c h;
         some = leb-true 1 n s.0;
         few = leb-true n 8 s.1;
-        places = columns_long n (get_or (take i ws) c 0) cs q.1;
         below = subst (ColumnsBelow n cs) (at c h) (columns_below n (get_or (take i ws) c 0) cs (leb-true n 8 s.1) q.1);
       }
   fits_sound (Pair l r n ps) e =
@@ -91,10 +85,7 @@ module _ (k : ℕ) (ws : List ℕ) (i : ℕ) (inside : i ≤ length ws) (thin : 
       record {
         left = hl;
         right = hr;
-        left_wide = wide l hl;
-        right_wide = wide r hr;
         few = leb-true n 4 s.0;
-        places = listed_long 4 (pair_fits (get_or vs l 0) (get_or vs r 0)) _ n ps t.0;
         left_below = λ j h. subst (λ w. (get_or ps j no_pair).left < w) el (ltb-true (get_or ps j no_pair).left (get_or vs l 0) (and_parts (ltb (get_or ps j no_pair).left (get_or vs l 0)) _ (each j h)).0);
         right_below = λ j h. subst (λ w. (get_or ps j no_pair).right < w) er (ltb-true (get_or ps j no_pair).right (get_or vs r 0) (and_parts (ltb (get_or ps j no_pair).left (get_or vs l 0)) _ (each j h)).1);
         narrow = let m = leb-true (get_or vs l 0 + get_or vs r 0) 8 t.1 in omega arith;
@@ -104,13 +95,13 @@ module _ (k : ℕ) (ws : List ℕ) (i : ℕ) (inside : i ≤ length ws) (thin : 
       let q = and_parts (ltb r (length (take i ws))) _ p.1 in
       let hl = lower l p.0 in
       let hr = lower r q.0 in
-      record { left = hl; right = hr; left_wide = wide l hl; right_wide = wide r hr; equal = sym (at l hl) ∙ (eqb-true (get_or (take i ws) l 0) (get_or (take i ws) r 0) q.1 ∙ at r hr) }
+      record { left = hl; right = hr; equal = sym (at l hl) ∙ (eqb-true (get_or (take i ws) l 0) (get_or (take i ws) r 0) q.1 ∙ at r hr) }
   fits_sound (Less l r) e =
       let p = and_parts (ltb l (length (take i ws))) _ e in
       let q = and_parts (ltb r (length (take i ws))) _ p.1 in
       let hl = lower l p.0 in
       let hr = lower r q.0 in
-      record { left = hl; right = hr; left_wide = wide l hl; right_wide = wide r hr; equal = sym (at l hl) ∙ (eqb-true (get_or (take i ws) l 0) (get_or (take i ws) r 0) q.1 ∙ at r hr) }
+      record { left = hl; right = hr; equal = sym (at l hl) ∙ (eqb-true (get_or (take i ws) l 0) (get_or (take i ws) r 0) q.1 ∙ at r hr) }
   fits_sound (Total c j n cs) e =
       let p = and_parts (ltb c (length (take i ws))) _ e in
       let q = and_parts (ltb j (get_or (take i ws) c 0)) _ p.1 in
@@ -120,13 +111,43 @@ module _ (k : ℕ) (ws : List ℕ) (i : ℕ) (inside : i ≤ length ws) (thin : 
       let m : n ≤ 7 = leb-true n 7 s.0 in
       record {
         lower = h;
-        wide = wide c h;
         column = subst (λ w. j < w) (at c h) (ltb-true j (get_or (take i ws) c 0) q.0);
         few = m;
-        places = columns_long n (get_or (take i ws) c 0) cs t.0;
         below = subst (ColumnsBelow n cs) (at c h) (columns_below n (get_or (take i ws) c 0) cs (omega arith) t.0);
         narrow = leb-true (n + 1 + k) 8 t.1;
       }
+
+  -- what the list of a node that fits has, and how wide the nodes are that it names
+  fits_handed : Narrow ws → (x : Node) → fits k (take i ws) x ≡ true → Sound k ws i x → Handed k ws i x
+  fits_handed thin (Base w) e s = record { some = s.some; narrow = s.narrow }
+  fits_handed thin (Keep c a r o) e s = let h = s.lower in record { wide = thin c (omega arith) }
+  fits_handed thin (Pick c n cs) e s =
+      let p = and_parts (ltb c (length (take i ws))) _ e in
+      let q = and_parts (leb 1 n && leb n 8) _ p.1 in
+      let h = s.lower in
+      record { wide = thin c (omega arith); places = columns_long n (get_or (take i ws) c 0) cs q.1 }
+  fits_handed thin (Pair l r n ps) e s =
+      let vs = take i ws in
+      let p = and_parts (ltb l (length vs)) _ e in
+      let q = and_parts (ltb r (length vs)) _ p.1 in
+      let m = and_parts (leb n 4) _ q.1 in
+      let t = and_parts (pairs_fit n (get_or vs l 0) (get_or vs r 0) ps) _ m.1 in
+      let hl = s.left in
+      let hr = s.right in
+      record {
+        left_wide = thin l (omega arith);
+        right_wide = thin r (omega arith);
+        places = listed_long 4 (pair_fits (get_or vs l 0) (get_or vs r 0)) _ n ps t.0;
+      }
+  fits_handed thin (Both l r) e s = let hl = s.left in let hr = s.right in record { left_wide = thin l (omega arith); right_wide = thin r (omega arith) }
+  fits_handed thin (Less l r) e s = let hl = s.left in let hr = s.right in record { left_wide = thin l (omega arith); right_wide = thin r (omega arith) }
+  fits_handed thin (Total c j n cs) e s =
+      let p = and_parts (ltb c (length (take i ws))) _ e in
+      let q = and_parts (ltb j (get_or (take i ws) c 0)) _ p.1 in
+      let m = and_parts (leb n 7) _ q.1 in
+      let t = and_parts (columns_fit n (get_or (take i ws) c 0) cs) _ m.1 in
+      let h = s.lower in
+      record { wide = thin c (omega arith); places = columns_long n (get_or (take i ws) c 0) cs t.0 }
 
   width_same : (x : Node) → Sound k ws i x → width k (take i ws) x ≡ width k ws x
   width_same (Base w) s = refl
@@ -144,11 +165,14 @@ module _ (k : ℕ) (xs : List Node) (law : lawful k [] xs ≡ true) (i : ℕ) (h
   first : take i (widths k [] xs) ≡ widths k [] (take i xs)
   first = widths_take k xs i (omega arith)
 
-  thin : Narrow (widths k [] xs)
-  thin = widths_narrow k [] xs narrow_none law
+  fit : fits k (take i (widths k [] xs)) (get_or xs i d) ≡ true
+  fit = rw first (lawful_at k [] xs d law i h)
 
   pub sound_at : Sound k (widths k [] xs) i (get_or xs i d)
-  sound_at = let n = long in fits_sound k (widths k [] xs) i (omega arith) thin (get_or xs i d) (rw first (lawful_at k [] xs d law i h))
+  sound_at = let n = long in fits_sound k (widths k [] xs) i (omega arith) (get_or xs i d) fit
+
+  pub handed_at : Handed k (widths k [] xs) i (get_or xs i d)
+  handed_at = let n = long in fits_handed k (widths k [] xs) i (omega arith) (widths_narrow k [] xs narrow_none law) (get_or xs i d) fit sound_at
 
   pub wide_at : slice_get (widths k [] xs) i ≡ Some (width k (widths k [] xs) (get_or xs i d))
   wide_at =
@@ -158,7 +182,7 @@ module _ (k : ℕ) (xs : List Node) (law : lawful k [] xs ≡ true) (i : ℕ) (h
       let l : length (widths k [] (take i xs)) ≡ i = widths_length k [] (take i xs) ∙ omega (arith, length-take-le i xs (omega arith)) in
       let e : take (i + 1) ws ≡ widths k [] (take i xs) ++ width k (widths k [] (take i xs)) x ∷ [] = widths_take k xs (i + 1) (omega arith) ∙ (ap (widths k []) (take_more xs i d h) ∙ widths_push k [] (take i xs) x) in
       let g : get_or ws i 0 ≡ width k (widths k [] (take i xs)) x = sym (get_or-take (i + 1) ws i 0 (omega arith)) ∙ (ap (λ v. get_or v i 0) e ∙ get_or_push (widths k [] (take i xs)) (width k (widths k [] (take i xs)) x) 0 i l) in
-      let s : width k (widths k [] (take i xs)) x ≡ width k ws x = ap (λ v. width k v x) (sym first) ∙ width_same k ws i (omega arith) thin x sound_at in
+      let s : width k (widths k [] (take i xs)) x ≡ width k ws x = ap (λ v. width k v x) (sym first) ∙ width_same k ws i (omega arith) x sound_at in
       slice_get-get_or ws i 0 (omega arith) ∙ ap Some (g ∙ s)
 
   pub narrow_at : OneToEight (width k (widths k [] xs) (get_or xs i d))

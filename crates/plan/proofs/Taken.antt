@@ -1,22 +1,19 @@
 -- The nodes that have been read, and those that are left.
 use Rattle.std.proofs.Common.{◌≡◌, ℕ, zero, suc, ◌+◌, ◌-◌, ◌<◌, List, [], ◌∷◌, ◌++◌, length, Ok, Err, Result, sym, refl, ap, ◌∙◌, append_assoc, append-nil, arith}
 use Rattle.plan.specs.declared.node.Node.{Node}
-use Rattle.plan.specs.declared.fault.Cause.{Cause}
-use Rattle.plan.specs.declared.fault.Cause.TheVariants as causes
-use Rattle.plan.specs.declared.fault.PlanFault.{PlanFault}
-use Rattle.plan.specs.Refusal.{fault_at}
+use Rattle.plan.specs.Refusal.{Refusal, refused}
 use Rattle.plan.specs.Lawful.{width}
 use Rattle.plan.specs.Check.{node, more, nodes, checked}
 
-abbrev pub after : List Node → Result (List Node) PlanFault → Result (List Node) PlanFault
+abbrev pub after : List Node → Result (List Node) Refusal → Result (List Node) Refusal
 after xs (Ok ys) = Ok (xs ++ ys)
 after xs (Err e) = Err e
 
-pub after_none : (o : Result (List Node) PlanFault) → after [] o ≡ o
+pub after_none : (o : Result (List Node) Refusal) → after [] o ≡ o
 after_none (Ok ys) = refl
 after_none (Err e) = refl
 
-after_more : (xs : List Node) (x : Node) (o : Result (List Node) PlanFault) → after xs (more x o) ≡ after (xs ++ x ∷ []) o
+after_more : (xs : List Node) (x : Node) (o : Result (List Node) Refusal) → after xs (more x o) ≡ after (xs ++ x ∷ []) o
 after_more xs x (Ok ys) = ap Ok (sym (append_assoc xs (x ∷ []) ys))
 after_more xs x (Err e) = refl
 
@@ -24,7 +21,7 @@ pub checked_is : (k : ℕ) (bytes : List ℕ) → 0 < length bytes → checked k
 checked_is k [] h = absurd (omega arith)
 checked_is k (b ∷ bytes) h = refl
 
-pub checked_none : (k : ℕ) (bytes : List ℕ) → length bytes ≡ 0 → checked k bytes ≡ Err (fault_at 0 causes.Nodes)
+pub checked_none : (k : ℕ) (bytes : List ℕ) → length bytes ≡ 0 → checked k bytes ≡ Err (refused 0 6)
 checked_none k [] h = refl
 checked_none k (b ∷ bytes) h = absurd (omega arith)
 
@@ -34,7 +31,7 @@ nodes_end zero k i ws [] z = refl
 nodes_end (suc n) k i ws [] z = refl
 nodes_end n k i ws (b ∷ bytes) z = absurd (omega arith)
 
-pub nodes_full : (k i : ℕ) (ws bytes : List ℕ) → i ≡ 16 → 0 < length bytes → nodes (16 - i) k i ws bytes ≡ Err (fault_at 16 causes.Nodes)
+pub nodes_full : (k i : ℕ) (ws bytes : List ℕ) → i ≡ 16 → 0 < length bytes → nodes (16 - i) k i ws bytes ≡ Err (refused 16 6)
 unfolding nodes
 nodes_full k i ws [] h z = absurd (omega arith)
 nodes_full k i ws (b ∷ bytes) h z = rw h refl
@@ -44,7 +41,7 @@ unfolding nodes
 nodes_step k i ws [] x left h z e = absurd (omega arith)
 nodes_step k i ws (b ∷ bytes) x left h z e = let s : 16 - i ≡ suc (16 - (i + 1)) = omega arith in rw (s, e) refl
 
-pub nodes_stop : (k i : ℕ) (ws bytes : List ℕ) (cause : Cause) → i < 16 → 0 < length bytes → node k ws bytes ≡ Err cause → nodes (16 - i) k i ws bytes ≡ Err (fault_at i cause)
+pub nodes_stop : (k i : ℕ) (ws bytes : List ℕ) (cause : ℕ) → i < 16 → 0 < length bytes → node k ws bytes ≡ Err cause → nodes (16 - i) k i ws bytes ≡ Err (refused i cause)
 unfolding nodes
 nodes_stop k i ws [] c h z e = absurd (omega arith)
 nodes_stop k i ws (b ∷ bytes) c h z e = let s : 16 - i ≡ suc (16 - (i + 1)) = omega arith in rw (s, e) refl

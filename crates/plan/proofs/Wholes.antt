@@ -1,10 +1,10 @@
 -- Whole plans, there and back.
-use Rattle.std.proofs.Common.{◌≡◌, ℕ, zero, suc, ◌+◌, ◌≤◌, true, List, [], ◌∷◌, ◌++◌, length, Ok, Err, Result, sym, refl, ap, ◌∙◌, subst, append_assoc, arith, length-append}
+use Rattle.std.proofs.Common.{◌≡◌, ℕ, zero, suc, ◌+◌, ◌≤◌, true, List, [], ◌∷◌, ◌++◌, length, Ok, Err, Result, sym, refl, ap, ◌∙◌, subst, arith, length-append}
 use Rattle.std.specs.List.{AllByRecursion as All}
 use Rattle.std.proofs.lemmas.Bool.{and_parts, and_from}
 use Rattle.plan.specs.declared.node.Node.{Node}
 use Rattle.plan.specs.declared.node.Node.TheVariants.{Base, Keep, Pick, Pair, Both, Less, Total}
-use Rattle.plan.specs.declared.fault.PlanFault.{PlanFault}
+use Rattle.plan.specs.Refusal.{Refusal}
 use Rattle.plan.specs.Lawful.{width, fits, lawful, InRange, LawfulPlan}
 use Rattle.plan.specs.Fields.{Read}
 use Rattle.plan.specs.Check.{node, more, next, nodes, checked}
@@ -18,11 +18,11 @@ pub bytes_right : (xs ys : List ℕ) → Bytes (xs ++ ys) → Bytes ys
 bytes_right [] ys h = h
 bytes_right (x ∷ xs) ys h = bytes_right xs ys h.1
 
-more_ok : (x : Node) (o : Result (List Node) PlanFault) (xs : List Node) → more x o ≡ Ok xs → (ys : List Node) × (o ≡ Ok ys) × (x ∷ ys ≡ xs)
+more_ok : (x : Node) (o : Result (List Node) Refusal) (xs : List Node) → more x o ≡ Ok xs → (ys : List Node) × (o ≡ Ok ys) × (x ∷ ys ≡ xs)
 more_ok x (Ok ys) xs e = (ys, refl, cc)
 more_ok x (Err f) xs e = let z : ◌≡◌ {A = ℕ} 0 1 = cc in absurd (omega arith)
 
-pub more_err : (x : Node) (o : Result (List Node) PlanFault) (e : PlanFault) → more x o ≡ Err e → o ≡ Err e
+pub more_err : (x : Node) (o : Result (List Node) Refusal) (e : Refusal) → more x o ≡ Err e → o ≡ Err e
 more_err x (Ok ys) e f = let z : ◌≡◌ {A = ℕ} 0 1 = cc in absurd (omega arith)
 more_err x (Err g) e f = f
 
@@ -33,7 +33,7 @@ record Whole (steps k : ℕ) (ws bytes : List ℕ) (xs : List Node) : Type 0 whe
   code : Bytes bytes → bytes ≡ encode_all xs
   range : Bytes bytes → All InRange xs
 
-nothing : (steps k : ℕ) (ws : List ℕ) (xs : List Node) → ◌≡◌ {A = Result (List Node) PlanFault} (Ok []) (Ok xs) → Whole steps k ws [] xs
+nothing : (steps k : ℕ) (ws : List ℕ) (xs : List Node) → ◌≡◌ {A = Result (List Node) Refusal} (Ok []) (Ok xs) → Whole steps k ws [] xs
 unfolding lawful
 nothing steps k ws xs e = let s : [] ≡ xs = cc in subst (Whole steps k ws []) s (record { fit = refl; few = omega arith; code = λ _. refl; range = λ _. tt })
 
@@ -99,26 +99,29 @@ some_node : (k b : ℕ) (bytes : List ℕ) (xs : List Node) → Whole 16 k [] (b
 some_node k b bytes [] w h = let e : ◌≡◌ {A = List ℕ} (b ∷ bytes) [] = w.code h in omega (arith, ap length e)
 some_node k b bytes (x ∷ xs) w h = omega arith
 
-pub accepted_are_encodings : AcceptedAreEncodings
-accepted_are_encodings k [] xs h e = let z : ◌≡◌ {A = ℕ} 0 1 = cc in absurd (omega arith)
-accepted_are_encodings k (b ∷ bytes) xs h e =
+pub accepted : (k : ℕ) (bytes : List ℕ) (xs : List Node) → Bytes bytes → checked k bytes ≡ Ok xs → LawfulPlan k xs × (bytes ≡ encode_all xs)
+accepted k [] xs h e = let z : ◌≡◌ {A = ℕ} 0 1 = cc in absurd (omega arith)
+accepted k (b ∷ bytes) xs h e =
     let w = whole 16 k 0 [] (b ∷ bytes) xs e in
     (record { some = some_node k b bytes xs w h; few = w.few; fit = w.fit; range = w.range h }, w.code h)
 
-some_byte : (xs : List Node) → 1 ≤ length xs → 1 ≤ length (encode_all xs)
+pub some_byte : (xs : List Node) → 1 ≤ length xs → 1 ≤ length (encode_all xs)
 some_byte [] h = absurd (omega arith)
 some_byte (x ∷ xs) h = simp length-append (omega (arith, long x))
 
 pub read_back : (k : ℕ) (xs : List Node) → LawfulPlan k xs → checked k (encode_all xs) ≡ Ok xs
 read_back k xs l = checked_some k (encode_all xs) (some_byte xs l.some) ∙ nodes_read 16 k 0 [] xs l.few l.fit l.range
 
+pub accepted_are_encodings : AcceptedAreEncodings
+accepted_are_encodings k bytes xs h = (accepted k bytes xs h, λ l e. ap (checked k) e ∙ read_back k xs l)
+
 pub encodings_are_accepted : EncodingsAreAccepted
 encodings_are_accepted k xs l = (plan_bytes k xs l, read_back k xs l)
 
 pub one_encoding : OneEncoding
-one_encoding k xs a b ha hb ea eb = (accepted_are_encodings k a xs ha ea).1 ∙ sym (accepted_are_encodings k b xs hb eb).1
+one_encoding k xs a b ha hb ea eb = (accepted k a xs ha ea).1 ∙ sym (accepted k b xs hb eb).1
 
 pub one_to_one : OneToOne
 one_to_one k xs ys l m e =
-    let f : ◌≡◌ {A = Result (List Node) PlanFault} (Ok xs) (Ok ys) = sym (read_back k xs l) ∙ (ap (checked k) e ∙ read_back k ys m) in
+    let f : ◌≡◌ {A = Result (List Node) Refusal} (Ok xs) (Ok ys) = sym (read_back k xs l) ∙ (ap (checked k) e ∙ read_back k ys m) in
     cc

@@ -1,10 +1,9 @@
--- One field read from bytes: its value and the bytes behind it, or the cause of a refusal.
+-- One field read from bytes: its value and the bytes behind it, or the number of the cause.
 --
---   Read          what was read and the bytes behind it, or the cause
---   told          what a reader answers: the value, and the bytes that it lends
+--   missing, outside, not_lower, past-width, bad-width, bad-count   the numbers of the causes, 1 to 6
+--   Read          what was read and the bytes behind it, or the number of the cause
 --   then          goes on with what was read; the first bad field decides
 --   when          a value under a test, else the cause
---   present       what is there, else the cause Missing
 --   octet         one byte
 --   lower         the number of a lower node; ws are the widths of the lower nodes
 --   column        a column of rows w wide
@@ -18,58 +17,71 @@
 --   columns       n columns, in eight places
 --   column-pair   a column of left rows and a column of right rows; no-pair is the blank
 --   pairs         n of them, in four places
-use Rattle.std.specs.Prelude.{ℕ, zero, suc, ◌-◌, Bool, true, false, cond, ◌&&◌, List, [], ◌∷◌, ◌++◌, length, replicate, Some, None, Ok, Err, Option, Result, ◌==◌, nat_le, nat_lt}
-use Rattle.std.specs.Borrow.{Bor}
-use Rattle.bag.specs.Bytes.{first_one, first_four}
+use Rattle.std.specs.Prelude.{ℕ, zero, suc, ◌+◌, ◌-◌, ◌*◌, Bool, true, false, cond, ◌&&◌, List, [], ◌∷◌, ◌++◌, length, replicate, Ok, Err, Result, ◌==◌, nat_le, nat_lt}
+use Rattle.std.proofs.Common.{to_z}
+use Rattle.std.specs.Int.{w32}
 use Rattle.bag.specs.declared.condition.Operand.{Operand}
 use Rattle.bag.specs.declared.condition.Operand.TheVariants.{Constant, Column}
 use Rattle.bag.specs.declared.condition.Relation.{Relation}
 use Rattle.bag.specs.declared.condition.Relation.TheVariants.{Less, LessOrEqual, Equal, NotEqual, GreaterOrEqual, Greater}
-use Rattle.plan.specs.declared.fault.Cause.{Cause}
-use Rattle.plan.specs.declared.fault.Cause.TheVariants as causes
 use Rattle.plan.specs.declared.node.ColumnPair.{ColumnPair}
 
+abbrev pub missing : ℕ
+missing = 1
+
+abbrev pub outside : ℕ
+outside = 2
+
+abbrev pub not_lower : ℕ
+not_lower = 3
+
+abbrev pub past_width : ℕ
+past_width = 4
+
+abbrev pub bad_width : ℕ
+bad_width = 5
+
+abbrev pub bad_count : ℕ
+bad_count = 6
+
 abbrev pub Read : Type 0 → Type 0
-Read X = Result (X × List ℕ) Cause
+Read X = Result (X × List ℕ) ℕ
 
-abbrev pub told : {X : Type 0} → Result (X × Bor (List ℕ)) Cause → Read X
-told (Ok p) = Ok (p.0, p.1.now)
-told (Err e) = Err e
-
-abbrev pub then : {X Y : Type 0} → Result X Cause → (X → Result Y Cause) → Result Y Cause
+abbrev pub then : {X Y : Type 0} → Result X ℕ → (X → Result Y ℕ) → Result Y ℕ
 then (Ok x) f = f x
 then (Err e) f = Err e
 
-abbrev pub when : {X : Type 0} → Bool → Cause → X → Result X Cause
+abbrev pub when : {X : Type 0} → Bool → ℕ → X → Result X ℕ
 when true e x = Ok x
 when false e x = Err e
 
-abbrev pub present : {X : Type 0} → Option X → Result X Cause
-present (Some x) = Ok x
-present None = Err causes.Missing
-
 abbrev pub octet : List ℕ → Read ℕ
-octet bytes = present (first_one bytes)
+octet [] = Err missing
+octet (b ∷ rest) = Ok (b, rest)
 
 abbrev pub lower : List ℕ → List ℕ → Read ℕ
-lower ws bytes = then (octet bytes) (λ p. when (nat_lt p.0 (length ws)) causes.Lower p)
+lower ws bytes = then (octet bytes) (λ p. when (nat_lt p.0 (length ws)) not_lower p)
 
 abbrev pub column : ℕ → List ℕ → Read ℕ
-column w bytes = then (octet bytes) (λ p. when (nat_lt p.0 w) causes.Column p)
+column w bytes = then (octet bytes) (λ p. when (nat_lt p.0 w) past_width p)
 
 abbrev pub within : ℕ → ℕ → List ℕ → Read ℕ
-within a b bytes = then (octet bytes) (λ p. when (nat_le a p.0 && nat_le p.0 b) causes.Value p)
+within a b bytes = then (octet bytes) (λ p. when (nat_le a p.0 && nat_le p.0 b) outside p)
 
-abbrev pub relation : ℕ → Result Relation Cause
+abbrev pub relation : ℕ → Result Relation ℕ
 relation b =
-    cond (b == 0) (Ok Less) (cond (b == 1) (Ok LessOrEqual) (cond (b == 2) (Ok Equal) (cond (b == 3) (Ok NotEqual) (cond (b == 4) (Ok GreaterOrEqual) (cond (b == 5) (Ok Greater) (Err causes.Value))))))
+    cond (b == 0) (Ok Less) (cond (b == 1) (Ok LessOrEqual) (cond (b == 2) (Ok Equal) (cond (b == 3) (Ok NotEqual) (cond (b == 4) (Ok GreaterOrEqual) (cond (b == 5) (Ok Greater) (Err outside))))))
 
 abbrev pub word : List ℕ → Read Operand
-word bytes = then (present (first_four bytes)) (λ v. Ok (Constant v.0, v.1))
+word [] = Err missing
+word (a ∷ []) = Err missing
+word (a ∷ b ∷ []) = Err missing
+word (a ∷ b ∷ c ∷ []) = Err missing
+word (a ∷ b ∷ c ∷ d ∷ rest) = Ok (Constant (to_z w32 (a * 16777216 + b * 65536 + c * 256 + d)), rest)
 
 abbrev pub operand : ℕ → List ℕ → Read Operand
 operand w bytes =
-    then (octet bytes) (λ k. cond (k.0 == 0) (word k.1) (cond (k.0 == 1) (then (column w k.1) (λ b. Ok (Column b.0, b.1))) (Err causes.Value)))
+    then (octet bytes) (λ k. cond (k.0 == 0) (word k.1) (cond (k.0 == 1) (then (column w k.1) (λ b. Ok (Column b.0, b.1))) (Err outside)))
 
 unfoldable pub items : {X : Type 0} → (List ℕ → Read X) → ℕ → List ℕ → Read (List X)
 items reader zero bytes = Ok ([], bytes)

@@ -6,12 +6,10 @@
 --   columns-fit    eight places, the first n columns of rows w wide, the others 0
 --   pairs-fit      four places, the first n pairs of a column of left rows and a column of right rows, the others 0
 --   operand-fits   a number, or a column of rows w wide
---   fits           a node names lower nodes and columns below their widths, both sides of a union or difference are equally wide,
---                  and a base, a pick, a pair and a total are at most 8 wide. The others are as wide as a lower node, so no
---                  node of a lawful plan is wider (WidthsOneToEight, a law)
+--   fits           a node names lower nodes, its columns lie below their widths, its own width is at most 8
 --   widths         the widths of nodes that follow nodes of the widths ws
 --   lawful         each node of a list fits over those before it
---   One-to-eight   what a width is in a lawful plan
+--   One-to-eight   what a width is in a lawful plan (WidthsOneToEight, a law)
 --   In-range       a constant is a signed number of 32 bits: what the type Node holds
 --   Lawful-plan    1 to 16 nodes that are lawful, under a measure that shows k columns
 use Rattle.std.specs.Prelude.{◌≡◌, ℕ, ◌+◌, ◌≤◌, Bool, true, ◌&&◌, ltb, List, [], ◌∷◌, ◌++◌, length, take, drop, FitsSigned, ◌==◌, nat_eq, nat_le, nat_lt, slice_index}

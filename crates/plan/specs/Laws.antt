@@ -1,38 +1,37 @@
--- Which bytes are plans, in terms of nodes and not of reading. A contract sees bytes as numbers of any size: `Bytes` is asked
--- only where a number past 255 would be read as a node that encodes to other bytes.
+-- Which bytes are plans, in terms of nodes and not of reading.
 --
---   Accepted-are-encodings   bytes that are accepted are the encoding of a lawful plan
+--   Accepted-are-encodings   the bytes accepted are exactly the encodings of lawful plans
+--   One-to-one               two lawful plans with equal bytes are equal
+--   Broken-at                the bytes begin with whole lawful nodes, as many as the refusal's node says, and where there are
+--                            fewer than 16, no lawful node follows them; where there are 16, some byte does
+--   Refused-where-broken     every refusal has the number 12, and the bytes are broken at its node
+--
+-- A contract sees bytes as numbers of any size: `Bytes` is asked only where a number past 255 would be read as a node that encodes
+-- to other bytes.
+--
 --   Encodings-are-accepted   the encoding of a lawful plan is bytes, and checking it gives that plan back
 --   One-encoding             a plan has one encoding: bytes that are accepted as the same plan are equal
---   One-to-one               two lawful plans with equal encodings are equal
---   Broken-at                the bytes begin with whole lawful nodes, as many as are said, and go on with no lawful one:
---                            something is left behind them, unless there is no byte at all; where there are fewer than 16, no
---                            lawful node follows them, and where there are 16, none may
---   Refused-where-broken     a refusal says the node at which the bytes are broken
---   Broken-are-refused       bytes that are broken at a node are refused there
---   Plan-or-broken           what an answer of checking means: the nodes of the plan that the bytes encode, or where they are broken
---   Never-both               neither accepted bytes nor the encoding of a lawful plan are broken anywhere
+--   Breaks-at                as Broken-at, and something is left behind the whole nodes, unless there is no byte at all
+--   Refused-there            every refusal is that of a fault: the number 12, a node and the number of a cause; the bytes break there
+--   Broken-are-refused       bytes that break at a node are refused there
+--   Plan-or-broken           what an answer of checking means: the nodes of the plan that the bytes encode, or where they break
+--   Never-both               neither accepted bytes nor the encoding of a lawful plan break anywhere
 --   Widths-one-to-eight      the rows of every node of a lawful plan are 1 to 8 wide
 use Rattle.std.specs.Prelude.{◌≡◌, ℕ, ◌<◌, ◌≤◌, true, List, [], ◌++◌, length, Ok, Err, Result, ◌≢◌, slice_index}
 use Rattle.std.specs.List.{AllByRecursion as All}
-use Rattle.bag.specs.Bytes.{Bytes}
 use Rattle.plan.specs.declared.fault.PlanFault.{PlanFault}
 use Rattle.plan.specs.declared.node.Node.{Node}
+use Rattle.plan.specs.Refusal.{Refusal, plan_refusal}
 use Rattle.plan.specs.Lawful.{fits, widths, lawful, OneToEight, InRange, LawfulPlan}
 use Rattle.plan.specs.Check.{checked}
+use Rattle.bag.specs.Bytes.{Bytes}
 use Rattle.plan.specs.Encode.{encode, encode_all}
 
 abbrev pub AcceptedAreEncodings : Type 0
 AcceptedAreEncodings =
-    (k : ℕ) (bytes : List ℕ) (xs : List Node) → Bytes bytes → checked k bytes ≡ Ok xs → LawfulPlan k xs × (bytes ≡ encode_all xs)
-
-abbrev pub EncodingsAreAccepted : Type 0
-EncodingsAreAccepted =
-    (k : ℕ) (xs : List Node) → LawfulPlan k xs → Bytes (encode_all xs) × (checked k (encode_all xs) ≡ Ok xs)
-
-abbrev pub OneEncoding : Type 0
-OneEncoding =
-    (k : ℕ) (xs : List Node) (a b : List ℕ) → Bytes a → Bytes b → checked k a ≡ Ok xs → checked k b ≡ Ok xs → a ≡ b
+    (k : ℕ) (bytes : List ℕ) (xs : List Node) → Bytes bytes →
+    (checked k bytes ≡ Ok xs → LawfulPlan k xs × (bytes ≡ encode_all xs))
+    × (LawfulPlan k xs → bytes ≡ encode_all xs → checked k bytes ≡ Ok xs)
 
 abbrev pub OneToOne : Type 0
 OneToOne =
@@ -46,26 +45,51 @@ pub record BrokenAt (k : ℕ) (bytes : List ℕ) (node : ℕ) : Type 0 where
   pub few : length whole ≤ 16
   pub fit : lawful k [] whole ≡ true
   pub range : All InRange whole
-  pub more : 1 ≤ length bytes → 1 ≤ length rest
+  pub more : length whole ≡ 16 → 1 ≤ length rest
   pub none : (x : Node) (ys : List ℕ) → length whole < 16 → fits k (widths k [] whole) x ≡ true → InRange x → rest ≢ encode x ++ ys
 
 abbrev pub RefusedWhereBroken : Type 0
 RefusedWhereBroken =
-    (k : ℕ) (bytes : List ℕ) (f : PlanFault) → Bytes bytes → checked k bytes ≡ Err f → BrokenAt k bytes f.node
+    (k : ℕ) (bytes : List ℕ) (e : Refusal) → Bytes bytes → checked k bytes ≡ Err e →
+    (e.number ≡ 12) × BrokenAt k bytes e.place.0
+
+abbrev pub EncodingsAreAccepted : Type 0
+EncodingsAreAccepted =
+    (k : ℕ) (xs : List Node) → LawfulPlan k xs → Bytes (encode_all xs) × (checked k (encode_all xs) ≡ Ok xs)
+
+abbrev pub OneEncoding : Type 0
+OneEncoding =
+    (k : ℕ) (xs : List Node) (a b : List ℕ) → Bytes a → Bytes b → checked k a ≡ Ok xs → checked k b ≡ Ok xs → a ≡ b
+
+pub record BreaksAt (k : ℕ) (bytes : List ℕ) (node : ℕ) : Type 0 where
+  pub whole : List Node
+  pub rest : List ℕ
+  pub split : bytes ≡ encode_all whole ++ rest
+  pub many : length whole ≡ node
+  pub few : length whole ≤ 16
+  pub fit : lawful k [] whole ≡ true
+  pub range : All InRange whole
+  pub more : 1 ≤ length bytes → 1 ≤ length rest
+  pub none : (x : Node) (ys : List ℕ) → length whole < 16 → fits k (widths k [] whole) x ≡ true → InRange x → rest ≢ encode x ++ ys
+
+abbrev pub RefusedThere : Type 0
+RefusedThere =
+    (k : ℕ) (bytes : List ℕ) (e : Refusal) → Bytes bytes → checked k bytes ≡ Err e →
+    (f : PlanFault) × (e ≡ plan_refusal f) × BreaksAt k bytes f.node
 
 abbrev pub BrokenAreRefused : Type 0
 BrokenAreRefused =
-    (k : ℕ) (bytes : List ℕ) (node : ℕ) → Bytes bytes → BrokenAt k bytes node →
-    (f : PlanFault) × (checked k bytes ≡ Err f) × (f.node ≡ node)
+    (k : ℕ) (bytes : List ℕ) (node : ℕ) → Bytes bytes → BreaksAt k bytes node →
+    (f : PlanFault) × (checked k bytes ≡ Err (plan_refusal f)) × (f.node ≡ node)
 
 abbrev pub PlanOrBroken : ℕ → List ℕ → Result (List Node) PlanFault → Type 0
 PlanOrBroken k bytes (Ok xs) = LawfulPlan k xs × (bytes ≡ encode_all xs)
-PlanOrBroken k bytes (Err f) = BrokenAt k bytes f.node
+PlanOrBroken k bytes (Err f) = BreaksAt k bytes f.node
 
 abbrev pub NeverBoth : Type 0
 NeverBoth =
-    ((k : ℕ) (bytes : List ℕ) (xs : List Node) (node : ℕ) → Bytes bytes → checked k bytes ≡ Ok xs → BrokenAt k bytes node → ⊥)
-    × ((k : ℕ) (xs : List Node) (node : ℕ) → LawfulPlan k xs → BrokenAt k (encode_all xs) node → ⊥)
+    ((k : ℕ) (bytes : List ℕ) (xs : List Node) (node : ℕ) → Bytes bytes → checked k bytes ≡ Ok xs → BreaksAt k bytes node → ⊥)
+    × ((k : ℕ) (xs : List Node) (node : ℕ) → LawfulPlan k xs → BreaksAt k (encode_all xs) node → ⊥)
 
 abbrev pub WidthsOneToEight : Type 0
 WidthsOneToEight =

@@ -1,11 +1,13 @@
 -- The number and the place of a refused plan.
 --
 --   Refusal        a refusal's number, and its place: a node and the number of the cause there
+--   refused        refusal 12 at a node for a cause
 --   cause-number   Missing 1, Value 2, Lower 3, Column 4, Width 5, Nodes 6
 --   fault-at       the fault of a cause at a node
---   plan-refusal   number and place of each fault: 12, its node and its cause
+--   plan-refusal   number and place of each fault
+--   plan-told      a checker's answer with its fault as number and place
 --   plan-text      what is printed of a fault: `plan refused 12 at`, the node and the cause
-use Rattle.std.specs.Prelude.{ℕ, List, ◌++◌, codes, decimal}
+use Rattle.std.specs.Prelude.{ℕ, List, ◌++◌, Ok, Err, Result, codes, decimal}
 use Rattle.plan.specs.declared.fault.Cause.{Cause}
 use Rattle.plan.specs.declared.fault.Cause.TheVariants.{Missing, Value, Lower, Column, Width, Nodes}
 use Rattle.plan.specs.declared.fault.PlanFault.{PlanFault}
@@ -13,6 +15,9 @@ use Rattle.plan.specs.declared.fault.PlanFault.{PlanFault}
 pub record Refusal : Type 0 where
   pub number : ℕ
   pub place : ℕ × ℕ
+
+abbrev pub refused : ℕ → ℕ → Refusal
+refused node cause = record { number = 12; place = (node, cause) }
 
 abbrev pub cause_number : Cause → ℕ
 cause_number Missing = 1
@@ -26,7 +31,11 @@ abbrev pub fault_at : ℕ → Cause → PlanFault
 fault_at node cause = record { node = node; cause = cause }
 
 abbrev pub plan_refusal : PlanFault → Refusal
-plan_refusal f = record { number = 12; place = (f.node, cause_number f.cause) }
+plan_refusal f = refused f.node (cause_number f.cause)
+
+abbrev pub plan_told : {X : Type 0} → Result X PlanFault → Result X Refusal
+plan_told (Ok x) = Ok x
+plan_told (Err fault) = Err (plan_refusal fault)
 
 abbrev pub plan_text : PlanFault → List ℕ
 plan_text f =

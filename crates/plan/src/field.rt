@@ -1,6 +1,6 @@
-ghost use Rattle.std.specs.Prelude.{◌≡◌, ◌<◌, ◌≤◌, length, IfOk};
+ghost use Rattle.std.specs.Prelude.{◌≡◌, ◌<◌, ◌≤◌, length, IfOk, Ok, Err, MatchResult};
+ghost use Rattle.plan.specs.Refusal.{cause_number};
 ghost use Rattle.plan.specs.Fields as spec;
-ghost use Rattle.plan.specs.Fields.{told};
 
 use crate::fault::Cause;
 use crate::node::ColumnPair;
@@ -9,7 +9,7 @@ use bag::condition::{Operand, Relation};
 // Each reader answers the value of a field and the bytes behind it.
 
 pub(crate) fn octet(bytes: &[u8]) -> Result<(u8, &[u8]), Cause>
-    ensures is { spec.octet bytes.now ≡ told result }
+    ensures is { MatchResult result (λ p. spec.octet bytes.now ≡ Ok (p.0, p.1.now)) (λ e. spec.octet bytes.now ≡ Err (cause_number e)) }
     ensures shorter { IfOk result (λ p. length p.1.now < length bytes.now) }
 {
     let [b, rest @ ..] = bytes else {
@@ -20,7 +20,7 @@ pub(crate) fn octet(bytes: &[u8]) -> Result<(u8, &[u8]), Cause>
 
 // The number of a lower node; `widths` are those of the lower nodes.
 pub(crate) fn lower<'a>(widths: &[u8], bytes: &'a [u8]) -> Result<(u8, &'a [u8]), Cause>
-    ensures is { spec.lower widths.now bytes.now ≡ told result }
+    ensures is { MatchResult result (λ p. spec.lower widths.now bytes.now ≡ Ok (p.0, p.1.now)) (λ e. spec.lower widths.now bytes.now ≡ Err (cause_number e)) }
     ensures shorter { IfOk result (λ p. (length p.1.now < length bytes.now) × (p.0 < length widths.now)) }
 {
     let (c, rest) = octet(bytes)?;
@@ -32,7 +32,7 @@ pub(crate) fn lower<'a>(widths: &[u8], bytes: &'a [u8]) -> Result<(u8, &'a [u8])
 
 // A column of rows of this width.
 pub(crate) fn column(width: u8, bytes: &[u8]) -> Result<(u8, &[u8]), Cause>
-    ensures is { spec.column width bytes.now ≡ told result }
+    ensures is { MatchResult result (λ p. spec.column width bytes.now ≡ Ok (p.0, p.1.now)) (λ e. spec.column width bytes.now ≡ Err (cause_number e)) }
     ensures shorter { IfOk result (λ p. length p.1.now < length bytes.now) }
 {
     let (a, rest) = octet(bytes)?;
@@ -44,7 +44,7 @@ pub(crate) fn column(width: u8, bytes: &[u8]) -> Result<(u8, &[u8]), Cause>
 
 // A number from `least` to `most`.
 pub(crate) fn within(least: u8, most: u8, bytes: &[u8]) -> Result<(u8, &[u8]), Cause>
-    ensures is { spec.within least most bytes.now ≡ told result }
+    ensures is { MatchResult result (λ p. spec.within least most bytes.now ≡ Ok (p.0, p.1.now)) (λ e. spec.within least most bytes.now ≡ Err (cause_number e)) }
     ensures shorter { IfOk result (λ p. (length p.1.now < length bytes.now) × (p.0 ≤ most)) }
 {
     let (n, rest) = octet(bytes)?;
@@ -55,7 +55,7 @@ pub(crate) fn within(least: u8, most: u8, bytes: &[u8]) -> Result<(u8, &[u8]), C
 }
 
 pub(crate) fn relation(number: u8) -> Result<Relation, Cause>
-    ensures { result ≡ spec.relation number }
+    ensures { MatchResult result (λ x. spec.relation number ≡ Ok x) (λ e. spec.relation number ≡ Err (cause_number e)) }
 {
     match number {
         0 => Ok(Relation::Less),
@@ -70,7 +70,7 @@ pub(crate) fn relation(number: u8) -> Result<Relation, Cause>
 
 // What a column is compared with.
 pub(crate) fn operand(width: u8, bytes: &[u8]) -> Result<(Operand, &[u8]), Cause>
-    ensures is { spec.operand width bytes.now ≡ told result }
+    ensures is { MatchResult result (λ p. spec.operand width bytes.now ≡ Ok (p.0, p.1.now)) (λ e. spec.operand width bytes.now ≡ Err (cause_number e)) }
     ensures shorter { IfOk result (λ p. length p.1.now < length bytes.now) }
 {
     let (kind, rest) = octet(bytes)?;
@@ -95,7 +95,7 @@ pub(crate) fn operand(width: u8, bytes: &[u8]) -> Result<(Operand, &[u8]), Cause
 // `n` columns of rows of this width, in the first places.
 pub(crate) fn columns(n: u8, width: u8, bytes: &[u8]) -> Result<([u8; 8], &[u8]), Cause>
     requires { n ≤ 8 }
-    ensures is { spec.columns n width bytes.now ≡ told result }
+    ensures is { MatchResult result (λ p. spec.columns n width bytes.now ≡ Ok (p.0, p.1.now)) (λ e. spec.columns n width bytes.now ≡ Err (cause_number e)) }
     ensures shorter { IfOk result (λ p. length p.1.now ≤ length bytes.now) }
 {
     let mut list = [0; 8];
@@ -109,7 +109,7 @@ pub(crate) fn columns(n: u8, width: u8, bytes: &[u8]) -> Result<([u8; 8], &[u8])
 }
 
 fn column_pair(left: u8, right: u8, bytes: &[u8]) -> Result<(ColumnPair, &[u8]), Cause>
-    ensures is { spec.column_pair left right bytes.now ≡ told result }
+    ensures is { MatchResult result (λ p. spec.column_pair left right bytes.now ≡ Ok (p.0, p.1.now)) (λ e. spec.column_pair left right bytes.now ≡ Err (cause_number e)) }
     ensures shorter { IfOk result (λ p. length p.1.now < length bytes.now) }
 {
     let (a, rest) = column(left, bytes)?;
@@ -125,7 +125,7 @@ pub(crate) fn pairs(
     bytes: &[u8],
 ) -> Result<([ColumnPair; 4], &[u8]), Cause>
     requires { n ≤ 4 }
-    ensures is { spec.pairs n left right bytes.now ≡ told result }
+    ensures is { MatchResult result (λ p. spec.pairs n left right bytes.now ≡ Ok (p.0, p.1.now)) (λ e. spec.pairs n left right bytes.now ≡ Err (cause_number e)) }
     ensures shorter { IfOk result (λ p. length p.1.now ≤ length bytes.now) }
 {
     let mut list = [ColumnPair { left: 0, right: 0 }; 4];

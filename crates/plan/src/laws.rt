@@ -1,5 +1,5 @@
 ghost use Rattle.plan.specs.Laws.{AcceptedAreEncodings, EncodingsAreAccepted, OneEncoding, OneToOne};
-ghost use Rattle.plan.specs.Laws.{RefusedWhereBroken, BrokenAreRefused, NeverBoth, WidthsOneToEight};
+ghost use Rattle.plan.specs.Laws.{RefusedWhereBroken, RefusedThere, BrokenAreRefused, NeverBoth, WidthsOneToEight};
 
 // What holds of all bytes and nodes. The functions do nothing; their contracts have the laws proved.
 
@@ -29,6 +29,12 @@ pub fn encoding_is_one_to_one() -> u8
 
 pub fn refused_bytes_break_at_the_node() -> u8
     ensures { RefusedWhereBroken }
+{
+    0
+}
+
+pub fn refused_bytes_break_there() -> u8
+    ensures { RefusedThere }
 {
     0
 }

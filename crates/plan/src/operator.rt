@@ -1,7 +1,7 @@
-ghost use Rattle.std.specs.Prelude.{◌≡◌, ◌<◌, ◌≤◌, true, length, IfOk};
+ghost use Rattle.std.specs.Prelude.{◌≡◌, ◌<◌, ◌≤◌, true, length, IfOk, Ok, Err, MatchResult};
+ghost use Rattle.plan.specs.Refusal.{cause_number};
 ghost use Rattle.plan.specs.Lawful.{fits, width as width_by};
 ghost use Rattle.plan.specs.Check as spec;
-ghost use Rattle.plan.specs.Fields.{told};
 
 use crate::fault::Cause;
 use crate::field::{column, columns, lower, octet, operand, pairs, relation, within};
@@ -10,7 +10,7 @@ use crate::node::Node;
 // Each reader answers a node and the bytes behind it; `widths` are those of the lower nodes.
 
 fn base(bytes: &[u8]) -> Result<(Node, &[u8]), Cause>
-    ensures is { spec.base bytes.now ≡ told result }
+    ensures is { MatchResult result (λ p. spec.base bytes.now ≡ Ok (p.0, p.1.now)) (λ e. spec.base bytes.now ≡ Err (cause_number e)) }
     ensures shorter { IfOk result (λ p. length p.1.now < length bytes.now) }
 {
     let (w, rest) = within(1, 8, bytes)?;
@@ -18,7 +18,7 @@ fn base(bytes: &[u8]) -> Result<(Node, &[u8]), Cause>
 }
 
 fn keep<'a>(widths: &[u8], bytes: &'a [u8]) -> Result<(Node, &'a [u8]), Cause>
-    ensures is { spec.keep widths.now bytes.now ≡ told result }
+    ensures is { MatchResult result (λ p. spec.keep widths.now bytes.now ≡ Ok (p.0, p.1.now)) (λ e. spec.keep widths.now bytes.now ≡ Err (cause_number e)) }
     ensures shorter { IfOk result (λ p. length p.1.now < length bytes.now) }
 {
     let (c, rest) = lower(widths, bytes)?;
@@ -39,7 +39,7 @@ fn keep<'a>(widths: &[u8], bytes: &'a [u8]) -> Result<(Node, &'a [u8]), Cause>
 }
 
 fn pick<'a>(widths: &[u8], bytes: &'a [u8]) -> Result<(Node, &'a [u8]), Cause>
-    ensures is { spec.pick widths.now bytes.now ≡ told result }
+    ensures is { MatchResult result (λ p. spec.pick widths.now bytes.now ≡ Ok (p.0, p.1.now)) (λ e. spec.pick widths.now bytes.now ≡ Err (cause_number e)) }
     ensures shorter { IfOk result (λ p. length p.1.now < length bytes.now) }
 {
     let (c, rest) = lower(widths, bytes)?;
@@ -56,7 +56,7 @@ fn pick<'a>(widths: &[u8], bytes: &'a [u8]) -> Result<(Node, &'a [u8]), Cause>
 }
 
 fn pair<'a>(widths: &[u8], bytes: &'a [u8]) -> Result<(Node, &'a [u8]), Cause>
-    ensures is { spec.pair widths.now bytes.now ≡ told result }
+    ensures is { MatchResult result (λ p. spec.pair widths.now bytes.now ≡ Ok (p.0, p.1.now)) (λ e. spec.pair widths.now bytes.now ≡ Err (cause_number e)) }
     ensures shorter { IfOk result (λ p. length p.1.now < length bytes.now) }
 {
     let (l, rest) = lower(widths, bytes)?;
@@ -80,37 +80,37 @@ fn pair<'a>(widths: &[u8], bytes: &'a [u8]) -> Result<(Node, &'a [u8]), Cause>
 }
 
 // The numbers of two lower nodes with rows of one width.
-fn equal_sides<'a>(widths: &[u8], bytes: &'a [u8]) -> Result<((u8, u8), &'a [u8]), Cause>
-    ensures is { spec.equal_sides widths.now bytes.now ≡ told result }
-    ensures shorter { IfOk result (λ p. length p.1.now < length bytes.now) }
+fn equal_sides<'a>(widths: &[u8], bytes: &'a [u8]) -> Result<(u8, u8, &'a [u8]), Cause>
+    ensures is { MatchResult result (λ p. spec.equal_sides widths.now bytes.now ≡ Ok (p.0, p.1, p.2.now)) (λ e. spec.equal_sides widths.now bytes.now ≡ Err (cause_number e)) }
+    ensures shorter { IfOk result (λ p. length p.2.now < length bytes.now) }
 {
     let (l, rest) = lower(widths, bytes)?;
     let (r, rest) = lower(widths, rest)?;
     if widths[l as usize] != widths[r as usize] {
         return Err(Cause::Width);
     }
-    Ok(((l, r), rest))
+    Ok((l, r, rest))
 }
 
 fn both<'a>(widths: &[u8], bytes: &'a [u8]) -> Result<(Node, &'a [u8]), Cause>
-    ensures is { spec.both widths.now bytes.now ≡ told result }
+    ensures is { MatchResult result (λ p. spec.both widths.now bytes.now ≡ Ok (p.0, p.1.now)) (λ e. spec.both widths.now bytes.now ≡ Err (cause_number e)) }
     ensures shorter { IfOk result (λ p. length p.1.now < length bytes.now) }
 {
-    let ((l, r), rest) = equal_sides(widths, bytes)?;
+    let (l, r, rest) = equal_sides(widths, bytes)?;
     Ok((Node::Both { left: l, right: r }, rest))
 }
 
 fn less<'a>(widths: &[u8], bytes: &'a [u8]) -> Result<(Node, &'a [u8]), Cause>
-    ensures is { spec.less widths.now bytes.now ≡ told result }
+    ensures is { MatchResult result (λ p. spec.less widths.now bytes.now ≡ Ok (p.0, p.1.now)) (λ e. spec.less widths.now bytes.now ≡ Err (cause_number e)) }
     ensures shorter { IfOk result (λ p. length p.1.now < length bytes.now) }
 {
-    let ((l, r), rest) = equal_sides(widths, bytes)?;
+    let (l, r, rest) = equal_sides(widths, bytes)?;
     Ok((Node::Less { left: l, right: r }, rest))
 }
 
 fn total<'a>(shown: u8, widths: &[u8], bytes: &'a [u8]) -> Result<(Node, &'a [u8]), Cause>
     requires { shown ≤ 8 }
-    ensures is { spec.total shown widths.now bytes.now ≡ told result }
+    ensures is { MatchResult result (λ p. spec.total shown widths.now bytes.now ≡ Ok (p.0, p.1.now)) (λ e. spec.total shown widths.now bytes.now ≡ Err (cause_number e)) }
     ensures shorter { IfOk result (λ p. length p.1.now < length bytes.now) }
 {
     let (c, rest) = lower(widths, bytes)?;
@@ -134,7 +134,7 @@ fn total<'a>(shown: u8, widths: &[u8], bytes: &'a [u8]) -> Result<(Node, &'a [u8
 
 pub(crate) fn node<'a>(shown: u8, widths: &[u8], bytes: &'a [u8]) -> Result<(Node, &'a [u8]), Cause>
     requires { shown ≤ 8 }
-    ensures is { spec.node shown widths.now bytes.now ≡ told result }
+    ensures is { MatchResult result (λ p. spec.node shown widths.now bytes.now ≡ Ok (p.0, p.1.now)) (λ e. spec.node shown widths.now bytes.now ≡ Err (cause_number e)) }
     ensures shorter { IfOk result (λ p. length p.1.now < length bytes.now) }
 {
     let (operator, rest) = octet(bytes)?;

@@ -3,8 +3,6 @@
 // Plans with their expected answers: each cause at each operator where it can occur, and the edges of every limit.
 
 #[cfg(test)]
-mod answers;
-#[cfg(test)]
 mod asking;
 #[cfg(test)]
 mod lists;

@@ -2,7 +2,7 @@ ghost use Rattle.std.specs.Prelude.{◌≡◌, ◌≤◌, length, IfSome, Some};
 ghost use Rattle.std.specs.List.{slice_get};
 ghost use Rattle.plan.specs.Lawful.{width as width_by, OneToEight};
 ghost use Rattle.plan.specs.Plans.{nodes_of, widths_of};
-ghost use Rattle.plan.specs.Sound.{Sound};
+ghost use Rattle.plan.specs.Sound.{Sound, Handed};
 
 use crate::node::Node;
 use crate::plan::Plan;
@@ -30,6 +30,7 @@ impl Plan {
         ensures sound { IfSome result (λ x. Sound self.now.shown (widths_of self.now) i x) }
         ensures wide { IfSome result (λ x. slice_get (widths_of self.now) i ≡ Some (width_by self.now.shown (widths_of self.now) x)) }
         ensures bound { IfSome result (λ x. OneToEight (width_by self.now.shown (widths_of self.now) x)) }
+        ensures handed { IfSome result (λ x. Handed self.now.shown (widths_of self.now) i x) }
     {
         if i >= self.len {
             return None;
@@ -40,7 +41,8 @@ impl Plan {
     // How many columns the rows of the node with this number have.
     pub fn width(&self, i: usize) -> Option<u8>
         ensures answer { result ≡ slice_get (widths_of self.now) i }
-        ensures bound { IfSome result OneToEight }
+        ensures bound { IfSome result (λ w. w ≤ 8) }
+        ensures one_to_eight { IfSome result OneToEight }
     {
         if i >= self.len {
             return None;

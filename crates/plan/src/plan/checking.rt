@@ -1,4 +1,5 @@
 ghost use Rattle.std.specs.Prelude.{◌≡◌, IfOk};
+ghost use Rattle.plan.specs.Refusal.{plan_told};
 ghost use Rattle.plan.specs.Check.{checked, kept as keptColumns};
 ghost use Rattle.plan.specs.Laws.{PlanOrBroken};
 ghost use Rattle.plan.specs.Plans.{listed};
@@ -12,7 +13,7 @@ impl Plan {
     // The plan that the bytes say, for a measure that shows `shown` columns.
     // More than 8 columns count as 8: neither leaves room for a total.
     pub fn check(bytes: &[u8], shown: u8) -> Result<Plan, PlanFault>
-        ensures answer { listed result ≡ checked shown bytes.now }
+        ensures answer { plan_told (listed result) ≡ checked shown bytes.now }
         ensures meaning { PlanOrBroken shown bytes.now (listed result) }
         ensures shown { IfOk result (λ p. p.shown ≡ keptColumns shown) }
     {

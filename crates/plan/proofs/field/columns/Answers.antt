@@ -1,5 +1,6 @@
 use Rattle.std.proofs.Common.{arith}
 use Rattle.std.proofs.lemmas.Result.{err_from_is_err_and}
+use Rattle.plan.specs.Refusal.{cause_number}
 use Rattle.plan.specs.Fields.{column}
 use Rattle.plan.proofs.Fillings.{filling_none, filling_more, filling_stop, filling_all}
 use Rattle.plan.proofs.field.columns.Goals as goal
@@ -20,7 +21,7 @@ pub returns-in_err-a : goal.returns-in_err-a
 returns-in_err-a c =
     let l = c.loop-i in
     let p = err_from_is_err_and c.from_residual.result c.from_residual.ensures.1 in
-    let s = filling_stop (column c.args.width) 8 c.args.n 0 c.args.bytes.now l.i l.list l.rest.now l.invariant c.in_err-a.field-0.0 (omega arith) c.in_err-a.ensures.is in
+    let s = filling_stop (column c.args.width) 8 c.args.n 0 c.args.bytes.now l.i l.list l.rest.now l.invariant (cause_number c.in_err-a.field-0.0) (omega arith) c.in_err-a.ensures.is in
     record { is = rw (p.1, p.2) s; shorter = rw p.1 tt }
 
 pub returns : goal.returns

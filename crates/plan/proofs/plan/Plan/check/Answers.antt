@@ -2,6 +2,7 @@ use Rattle.std.proofs.Common.{◌≡◌, ◌-◌, ◌<◌, min, List, [], length
 use Rattle.std.proofs.ByRecursion.{All-from_get_or}
 use Rattle.std.proofs.lemmas.List.{take_more_set}
 use Rattle.bag.specs.Bytes.{Bytes}
+use Rattle.plan.specs.Refusal.{Refusal, cause_number, plan_refusal}
 use Rattle.plan.specs.declared.fault.PlanFault.{PlanFault}
 use Rattle.plan.specs.declared.node.Node.{Node}
 use Rattle.plan.specs.Lawful.{width}
@@ -20,6 +21,9 @@ loop-rest-init c =
     let z : 0 < length b = omega arith in
     (omega arith, refl, refl, lawful_none k, sym (widths_none k), omega arith, after_none (nodes 16 k 0 [] b) ∙ sym (checked_is k b z))
 
+abbrev told : PlanFault → Result (List Node) Refusal
+told f = Err (plan_refusal f)
+
 abbrev refused : PlanFault → Result (List Node) PlanFault
 refused f = Err f
 
@@ -27,7 +31,7 @@ pub returns-then-bytes-eq0 : goal.returns-then-bytes-eq0
 returns-then-bytes-eq0 c =
     let b = c.args.bytes.now in
     let h : Bytes b = All-from_get_or _ b 0 (λ i m. search rules) in
-    let a = ap refused c.at.ensures ∙ sym (checked_none c.args.shown b (omega arith)) in
+    let a = ap told c.at.ensures ∙ sym (checked_none c.args.shown b (omega arith)) in
     record { answer = a; meaning = plan_or_broken c.args.shown b (refused c.at.result) h a; shown = tt }
 
 pub returns-then-len-ge16 : goal.returns-then-len-ge16
@@ -38,7 +42,7 @@ returns-then-len-ge16 c =
     let z : k ≡ min c.args.shown 8 = c.min-showing.ensures in
     let e = sym (ap (after (take l.len l.nodes)) (nodes_full k l.len (take l.len l.widths) l.rest.now (omega arith) (omega arith))) ∙ (l.invariant.6 ∙ (ap (λ n. checked n b) z ∙ checked_kept c.args.shown b)) in
     let h : Bytes b = All-from_get_or _ b 0 (λ i m. search rules) in
-    let a = ap refused c.at-then-len-ge16.ensures ∙ e in
+    let a = ap told c.at-then-len-ge16.ensures ∙ e in
     record { answer = a; meaning = plan_or_broken c.args.shown b (refused c.at-then-len-ge16.result) h a; shown = tt }
 
 pub returns-in-Err : goal.returns-in-Err
@@ -46,13 +50,13 @@ returns-in-Err c =
     let l = c.loop-rest in
     let k = c.min-showing.result in
     let b = c.args.bytes.now in
-    let cause = c.in-Err.cause in
+    let cause = cause_number c.in-Err.cause in
     let z : k ≡ min c.args.shown 8 = c.min-showing.ensures in
     let n : l.len - 0 ≡ l.len = omega arith in
     let e : node k (take l.len l.widths) l.rest.now ≡ Err cause = subst (λ m. node k (take m l.widths) l.rest.now ≡ Err cause) n c.in-Err.ensures.is in
     let f = sym (ap (after (take l.len l.nodes)) (nodes_stop k l.len (take l.len l.widths) l.rest.now cause (omega arith) (omega arith) e)) ∙ (l.invariant.6 ∙ (ap (λ n. checked n b) z ∙ checked_kept c.args.shown b)) in
     let h : Bytes b = All-from_get_or _ b 0 (λ i m. search rules) in
-    let a = ap refused c.at-in-Err.ensures ∙ f in
+    let a = ap told c.at-in-Err.ensures ∙ f in
     record { answer = a; meaning = plan_or_broken c.args.shown b (refused c.at-in-Err.result) h a; shown = tt }
 
 pub width-requires : goal.width-requires

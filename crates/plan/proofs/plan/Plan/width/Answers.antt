@@ -13,7 +13,7 @@ returns-then-i-self c =
     let p = c.args.self.now in
     let l : p.len ≤ length p.widths = search rules in
     let n = length-take-le p.len p.widths l in
-    record { answer = sym (ap (λ v. slice_get v c.args.i) (sym p.wide) ∙ slice_get_past (take p.len p.widths) c.args.i (omega arith)); bound = tt }
+    record { answer = sym (ap (λ v. slice_get v c.args.i) (sym p.wide) ∙ slice_get_past (take p.len p.widths) c.args.i (omega arith)); bound = tt; one_to_eight = tt }
 
 pub returns : goal.returns
 returns c =
@@ -26,7 +26,9 @@ returns c =
     let h : i < length (take p.len p.widths) = omega arith in
     let e : get_or (take p.len p.widths) i 0 ≡ get_or p.widths i 0 = get_or-take p.len p.widths i 0 m in
     let f : get_or (widths_of p) i 0 ≡ get_or p.widths i 0 = ap (λ v. get_or v i 0) (sym p.wide) ∙ e in
+    let one = subst OneToEight f (widths_one_to_eight p.shown (nodes_of p) p.lawful i (omega arith)) in
     record {
       answer = sym (ap (λ v. slice_get v i) (sym p.wide) ∙ (slice_get-get_or (take p.len p.widths) i 0 h ∙ ap Some e));
-      bound = subst OneToEight f (widths_one_to_eight p.shown (nodes_of p) p.lawful i (omega arith));
+      bound = one.narrow;
+      one_to_eight = one;
     }
