@@ -3,7 +3,7 @@
 --     column_followed_front, column_followed_behind      the columns of a row that is followed by another
 --     columns_are_as_said   the law
 use Rattle.std.proofs.Common.{◌≡◌, ℕ, zero, suc, ◌-◌, ◌<◌, ◌≤◌, List, [], ◌∷◌, ◌++◌, length, get_or, take, replicate, ℤ, pos, Decides, sym, refl, ◌∙◌, ⊎_elim, arith}
-use Rattle.std.specs.List.{AllByRecursion as All}
+use Rattle.std.specs.List.{AllByRecursion}
 use Rattle.std.proofs.lemmas.List.{get_or_append_left, get_or-append_right, get_or-take, get_or_past, length-take}
 use Rattle.std.proofs.lemmas.Bool.{cases_lt}
 use Rattle.std.proofs.lemmas.Bool.Decides.{Decides-and}
@@ -34,7 +34,7 @@ column_at [] r i d h = absurd (omega arith)
 column_at (j ∷ is) r zero d h = refl
 column_at (j ∷ is) r (suc i) d h = column_at is r i d (omega arith)
 
-agreeing : (ps : List (ℕ × ℕ)) (a b : Row) → Decides (agree ps a b) (All (λ p. column_of a p.0 ≡ column_of b p.1) ps)
+agreeing : (ps : List (ℕ × ℕ)) (a b : Row) → Decides (agree ps a b) (AllByRecursion (λ p. column_of a p.0 ≡ column_of b p.1) ps)
 unfolding agree
 agreeing [] a b = ((λ e. tt), (λ h. refl))
 agreeing (p ∷ ps) a b =

@@ -7,7 +7,7 @@
 --   in_two       a number without sign as two bytes
 --   Bytes        every number of a list is a byte
 use Rattle.std.specs.Prelude.{ℕ, ◌+◌, ◌*◌, ◌/◌, ◌%◌, ◌<◌, List, [], ◌∷◌, ℤ, Some, None, Option}
-use Rattle.std.specs.List.{AllByRecursion as All}
+use Rattle.std.specs.List.{AllByRecursion}
 use Rattle.std.proofs.Common.{to_z, of_z}
 use Rattle.std.specs.Int.{w32}
 
@@ -35,4 +35,4 @@ abbrev pub in_two : ℕ → List ℕ
 in_two n = (n / 256 % 256) ∷ (n % 256) ∷ []
 
 abbrev pub Bytes : List ℕ → Type 0
-Bytes bytes = All (λ b. b < 256) bytes
+Bytes bytes = AllByRecursion (λ b. b < 256) bytes

@@ -10,7 +10,7 @@
 --     IsRow r              r has eight columns, each a signed 32-bit number: what the type Row holds
 use Rattle.std.specs.Prelude.{◌≡◌, ℕ, ◌≤◌, Bool, true, ◌&&◌, List, [], ◌∷◌, ◌++◌, length, take, replicate, ℤ, pos, FitsSigned, slice_index_or}
 use Rattle.std.specs.Int.{w32}
-use Rattle.std.specs.List.{AllByRecursion as All}
+use Rattle.std.specs.List.{AllByRecursion}
 use Rattle.bag.specs.declared.condition.Operand.{Operand}
 use Rattle.bag.specs.declared.condition.Operand.TheVariants.{Constant, Column}
 use Rattle.bag.specs.Order.{Row}
@@ -41,7 +41,7 @@ agree [] a b = true
 agree (p ∷ ps) a b = same_number (column_of a p.0) (column_of b p.1) && agree ps a b
 
 abbrev pub IsRow : Row → Type 0
-IsRow r = (length r ≡ 8) × All (FitsSigned w32) r
+IsRow r = (length r ≡ 8) × AllByRecursion (FitsSigned w32) r
 
 abbrev pub OfWidth : ℕ → Row → Type 0
 OfWidth w r = (length r ≡ 8) × ((i : ℕ) → w ≤ i → column_of r i ≡ pos 0)

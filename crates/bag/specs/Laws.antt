@@ -24,7 +24,7 @@ use Rattle.bag.specs.declared.condition.Relation.{Relation}
 use Rattle.bag.specs.declared.condition.Operand.{Operand}
 use Rattle.bag.specs.Order.{Row, row_order}
 use Rattle.bag.specs.Condition.{stands}
-use Rattle.std.specs.List.{AllByRecursion as All}
+use Rattle.std.specs.List.{AllByRecursion}
 use Rattle.bag.specs.Columns.{column_of, operand_of, listed, followed, agree, IsRow, OfWidth}
 use Rattle.bag.specs.Bag.{Line, Lines, is_zero, copies_at, count, Canonical, IsBag, EachRow, every_line, negated, difference, applied, next, lowest_row}
 use Rattle.bag.specs.Group.{Group, AddsUp, sum_over, every_integer, integers}
@@ -44,7 +44,7 @@ abbrev pub TheLowestRowIsLeast : Type 0
 TheLowestRowIsLeast = (r : Row) → IsRow r → (r ≡ lowest_row) ⊎ (row_order lowest_row r ≡ Less)
 
 pub record ColumnsAreAsSaid : Type 0 where
-  pub agreeing : (ps : List (ℕ × ℕ)) (a b : Row) → Decides (agree ps a b) (All (λ p. column_of a p.0 ≡ column_of b p.1) ps)
+  pub agreeing : (ps : List (ℕ × ℕ)) (a b : Row) → Decides (agree ps a b) (AllByRecursion (λ p. column_of a p.0 ≡ column_of b p.1) ps)
   pub of_listed : (is : List ℕ) (r : Row) (i d : ℕ) → i < length is → i < 8 → column_of (listed is r) i ≡ column_of r (slice_index_or is i d)
   pub of_left : (w : ℕ) (a b : Row) (i : ℕ) → length a ≡ 8 → i < 8 → i < w → column_of (followed w a b) i ≡ column_of a i
   pub of_right : (w : ℕ) (a b : Row) (i : ℕ) → length a ≡ 8 → i < 8 → w ≤ i → column_of (followed w a b) i ≡ column_of b (i - w)

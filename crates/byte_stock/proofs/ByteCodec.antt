@@ -3,7 +3,7 @@
 --     line_back                       a lawful line is read from its bytes as it was
 --     stored_back                     and so are lines laid one behind the other
 use Rattle.std.proofs.Common.{◌≡◌, ℕ, zero, suc, ◌+◌, ◌-◌, ◌*◌, ◌/◌, ◌%◌, ◌^◌, ◌<◌, ◌≤◌, List, [], ◌∷◌, ◌++◌, map, length, get_or, take, drop, ℤ, pos, sym, refl, ap, ◌∙◌, subst, ap₂, append_assoc, add_assoc, mod-eq_of_lt, arith, length-append, w32, SFits, to_z, of_z}
-use Rattle.std.specs.List.{flat_map, AllByRecursion as All, range_with_len}
+use Rattle.std.specs.List.{flat_map, AllByRecursion, range_with_len}
 use Rattle.std.proofs.lemmas.Int.{to_z-of_z, of_z-to_z, ints}
 use Rattle.std.proofs.lemmas.Nat.{shr-shr, shr_split, shr_below}
 use Rattle.std.proofs.lemmas.List.{get_or-drop, drop_at, drop-drop, ext_get_or}
@@ -44,7 +44,7 @@ pub length_line : (l : StockLine) → length l.row ≡ 8 → length (line_bytes 
 unfolding line_bytes
 length_line l h = omega (arith, length-append (flat_map in_four l.row) (in_two l.count), length_columns l.row)
 
-pub length_layout : (ls : Stored) → All LawfulLine ls → length (layout ls) ≡ 35 * length ls
+pub length_layout : (ls : Stored) → AllByRecursion LawfulLine ls → length (layout ls) ≡ 35 * length ls
 unfolding layout
 length_layout [] a = refl
 length_layout (l ∷ ls) a = omega (arith, length-append (line_bytes l) (layout ls), length_line l a.0.row.0, length_layout ls a.1)
@@ -101,7 +101,7 @@ line_back b i l rest h e =
     let count : two_at b (p + 33) ≡ l.count = two_shift b p 33 ∙ ap (λ x. two_at x 33) f ∙ count_back s l.count l.row rest h.row.0 h.most in
     same_line (line_at b i) l shelf row count
 
-pub at_line : (ls : Stored) (z : List ℕ) (i : ℕ) → All LawfulLine ls → i < length ls → drop (35 * i) (layout ls ++ z) ≡ line_bytes (line_of ls i) ++ (layout (drop (suc i) ls) ++ z)
+pub at_line : (ls : Stored) (z : List ℕ) (i : ℕ) → AllByRecursion LawfulLine ls → i < length ls → drop (35 * i) (layout ls ++ z) ≡ line_bytes (line_of ls i) ++ (layout (drop (suc i) ls) ++ z)
 unfolding layout
 at_line [] z i a h = absurd (omega arith)
 at_line (l ∷ ls) z zero a h = append_assoc (line_bytes l) (layout ls) z
@@ -112,7 +112,7 @@ at_line (l ∷ ls) z (suc i) a h =
     ∙ ap (drop (35 * i)) (ap (drop 35) (append_assoc (line_bytes l) (layout ls) z) ∙ drop_at (line_bytes l) (layout ls ++ z) 35 (length_line l a.0.row.0))
     ∙ at_line ls z i a.1 (omega arith)
 
-pub stored_back : (ls : Stored) (z : List ℕ) → All LawfulLine ls → stored_in (length ls) (layout ls ++ z) ≡ ls
+pub stored_back : (ls : Stored) (z : List ℕ) → AllByRecursion LawfulLine ls → stored_in (length ls) (layout ls ++ z) ≡ ls
 stored_back ls z a =
     let b = layout ls ++ z in
     let n = length-map-range_with_len (line_at b) 0 (length ls) in

@@ -4,7 +4,7 @@
 --     bytes_set, bytes_push, bytes_freed      what the writes leave
 --     at_place_is, nowhere_is        what a search finds, told of the lines
 use Rattle.std.proofs.Common.{◌≡◌, ℕ, zero, suc, ◌+◌, ◌-◌, ◌*◌, ◌/◌, ◌<◌, ◌≤◌, min, Bool, true, false, cond, eqb, List, [], ◌∷◌, ◌++◌, length, get_or, take, set, replicate, Result, Ordering, Less, Equal, Greater, sym, refl, ap, ◌∙◌, subst, ap₂, arith}
-use Rattle.std.specs.List.{AllByRecursion as All}
+use Rattle.std.specs.List.{AllByRecursion}
 use Rattle.std.proofs.lemmas.Bool.{and_parts, eqb-true, both_ways}
 use Rattle.std.proofs.lemmas.List.{length-set, length_push, length-replicate}
 use Rattle.std.proofs.ByRecursion.{All-get_or, All-set}
@@ -37,7 +37,7 @@ line_in b len i h = get_or-map-range_with_len (line_at b) 0 len i i blank_stock_
 pub kept_in : (b : List ℕ) (len : ℕ) → SoundLines b len → Kept (capacity_in (length b)) (stored_in len b)
 kept_in b len h = record { lawful = h.lawful; apart = h.apart; room = let n = length_stored b len in let m = h.room in omega arith }
 
-pub stored_from : (b : List ℕ) (len : ℕ) (ks : Stored) → All LawfulLine ks → b ≡ padded (length b) ks → len ≡ length ks → stored_in len b ≡ ks
+pub stored_from : (b : List ℕ) (len : ℕ) (ks : Stored) → AllByRecursion LawfulLine ks → b ≡ padded (length b) ks → len ≡ length ks → stored_in len b ≡ ks
 stored_from b len ks a e n = ap₂ stored_in n e ∙ stored_back ks (replicate (length b - 35 * length ks) 0) a
 
 pub sound_from : (b : List ℕ) (len : ℕ) (ks : Stored) → Kept (capacity_in (length b)) ks → b ≡ padded (length b) ks → len ≡ length ks → SoundLines b len
@@ -46,7 +46,7 @@ sound_from b len ks k e n =
     let m = k.room in
     record {
       room = omega arith;
-      lawful = subst (All LawfulLine) (sym s) k.lawful;
+      lawful = subst (AllByRecursion LawfulLine) (sym s) k.lawful;
       apart = subst Apart (sym s) k.apart;
       whole = e ∙ ap (padded (length b)) (sym s);
       holding = subst (λ (x : Stored). LawfulHolding (holding_of (capacity_in (length b)) x)) (sym s) (lawful_stored (capacity_in (length b)) ks k.lawful k.apart k.room (omega arith));
@@ -90,13 +90,13 @@ pub take_same : (b : List ℕ) (len s : ℕ) (r : Row) (n : ℕ) (answered : Res
 take_same b len s r n answered x h m t = take_left b len s r n answered b len (stored_in len b) x m t refl h.whole (sym (length_stored b len))
 
 -- the writes
-pub bytes_set : (b : List ℕ) (ls : Stored) (i : ℕ) (l : StockLine) → All LawfulLine ls → LawfulLine l → i < length ls → b ≡ padded (length b) ls → laid b (35 * i) (line_bytes l) ≡ padded (length b) (set ls i l)
+pub bytes_set : (b : List ℕ) (ls : Stored) (i : ℕ) (l : StockLine) → AllByRecursion LawfulLine ls → LawfulLine l → i < length ls → b ≡ padded (length b) ls → laid b (35 * i) (line_bytes l) ≡ padded (length b) (set ls i l)
 bytes_set b ls i l a k h e =
     ap (λ x. laid x (35 * i) (line_bytes l)) e
     ∙ set_laid ls i l (replicate (length b - 35 * length ls) 0) a k h
     ∙ ap (λ n. layout (set ls i l) ++ replicate (length b - 35 * n) 0) (sym (length-set ls i l))
 
-pub bytes_push : (b : List ℕ) (ls : Stored) (l : StockLine) → All LawfulLine ls → LawfulLine l → length ls < capacity_in (length b) → b ≡ padded (length b) ls → laid b (35 * length ls) (line_bytes l) ≡ padded (length b) (ls ++ l ∷ [])
+pub bytes_push : (b : List ℕ) (ls : Stored) (l : StockLine) → AllByRecursion LawfulLine ls → LawfulLine l → length ls < capacity_in (length b) → b ≡ padded (length b) ls → laid b (35 * length ls) (line_bytes l) ≡ padded (length b) (ls ++ l ∷ [])
 bytes_push b ls l a k h e =
     let m = length b - 35 * length ls in
     let n = length_push ls l in

@@ -3,7 +3,7 @@
 --     copies_found, copies_none     the count of a row that has a line, and of one that has none
 --     next_stored, next_of_none     the row after is that of the smallest greater line of the shelf
 use Rattle.std.proofs.Common.{◌≡◌, ℕ, zero, suc, ◌+◌, ◌<◌, ◌≤◌, Bool, true, false, cond, eqb, ◌⊎◌, List, [], ◌∷◌, ◌++◌, map, length, get_or, ℤ, pos, negsuc, ◌+ℤ◌, nat_abs, ◌≤ℤ◌, Some, None, Ordering, Less, Equal, Greater, sym, refl, ap, ◌∙◌, subst, ap₂, inl, inr, arith}
-use Rattle.std.specs.List.{flat_map, AllByRecursion as All}
+use Rattle.std.specs.List.{flat_map, AllByRecursion}
 use Rattle.std.specs.Option.{option_map}
 use Rattle.std.proofs.lemmas.Int.{ints}
 use Rattle.std.proofs.ByRecursion.{All-get_or}
@@ -28,18 +28,18 @@ rows_line : (t : ℕ) (l : StockLine) (b : Bool) → IsRow l.row → EachRow IsR
 rows_line t l true h = (h, tt)
 rows_line t l false h = tt
 
-rows_stored : (t : ℕ) (ls : Stored) → All LawfulLine ls → EachRow IsRow (flat_map (line_on t) ls)
+rows_stored : (t : ℕ) (ls : Stored) → AllByRecursion LawfulLine ls → EachRow IsRow (flat_map (line_on t) ls)
 rows_stored t [] a = tt
 rows_stored t (l ∷ ls) a = rows-++ IsRow (line_on t l) (flat_map (line_on t) ls) (rows_line t l (eqb l.shelf t) a.0.row) (rows_stored t ls a.1)
 
-rows_bag : (t : ℕ) (ls : Stored) → All LawfulLine ls → EachRow IsRow (bag_on t ls)
+rows_bag : (t : ℕ) (ls : Stored) → AllByRecursion LawfulLine ls → EachRow IsRow (bag_on t ls)
 unfolding bag_on
 rows_bag t ls a = rows_collect IsRow (flat_map (line_on t) ls) (rows_stored t ls a)
 
 is_bag_on : (ls : Stored) (t : ℕ) → IsBag (bag_on t ls)
 is_bag_on ls t = (canonical_bag ls t, bag_from_counts (bag_on t ls) (canonical_bag ls t) (λ q. subst (λ (z : ℤ). pos 0 ≤ℤ z) (sym (count_bag ls t q)) (tally_low t q ls)))
 
-pub lawful_stored : (c : ℕ) (ls : Stored) → All LawfulLine ls → Apart ls → length ls ≤ c → c ≤ 4096 → LawfulHolding (holding_of c ls)
+pub lawful_stored : (c : ℕ) (ls : Stored) → AllByRecursion LawfulLine ls → Apart ls → length ls ≤ c → c ≤ 4096 → LawfulHolding (holding_of c ls)
 lawful_stored c ls a p h k =
     record {
       sixteen = shelves_sixteen ls;
@@ -50,7 +50,7 @@ lawful_stored c ls a p h k =
       small = k;
     }
 
-module _ (c : ℕ) (ls : Stored) (a : All LawfulLine ls) (p : Apart ls) where
+module _ (c : ℕ) (ls : Stored) (a : AllByRecursion LawfulLine ls) (p : Apart ls) where
   pub copies_found : (s : ℕ) (r : Row) (i : ℕ) → i < length ls → (line_of ls i).shelf ≡ s → (line_of ls i).row ≡ r → copies (holding_of c ls) s r ≡ (line_of ls i).count
   copies_found s r i h e f = ap nat_abs (shelf_count ls s r a ∙ tally_found s r ls i p h e f)
 

@@ -4,7 +4,7 @@
 --     put_node .. put_new, take_node .. take_idle what each case answers and leaves
 use Rattle.std.proofs.Common.{◌≡◌, ℕ, zero, suc, ◌+◌, ◌-◌, ◌<◌, ◌≤◌, Bool, true, false, cond, ◌&&◌, eqb, ltb, ◌⊎◌, List, [], ◌∷◌, ◌++◌, length, get_or, take, set, ℤ, pos, negsuc, ◌+ℤ◌, neg_ℤ, nat_abs, Some, None, Ok, Err, Option, Result, Ordering, Less, Equal, Greater, sym, refl, ap, ◌∙◌, subst, ap₂, inl, inr, arith}
 use lib.IntN.{+ℤ_idr}
-use Rattle.std.specs.List.{AllByRecursion as All}
+use Rattle.std.specs.List.{AllByRecursion}
 use Rattle.std.specs.Option.{option_map}
 use Rattle.std.proofs.lemmas.Int.{ints}
 use Rattle.std.proofs.lemmas.Bool.{cases_eq, cond-true, cond-false, lt-ltb, le-ltb, eq-eqb, ne_eqb, and_from, and_left, and_right}
@@ -56,7 +56,7 @@ place_found s r (l ∷ ls) (suc i) p h e f =
 
 -- what is kept
 pub record Kept (c : ℕ) (ls : Stored) : Type 0 where
-  pub lawful : All LawfulLine ls
+  pub lawful : AllByRecursion LawfulLine ls
   pub apart : Apart ls
   pub room : length ls ≤ c
 

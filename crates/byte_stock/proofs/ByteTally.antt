@@ -6,7 +6,7 @@
 --     lines_are_length                   there are as many lines as are stored
 use Rattle.std.proofs.Common.{◌≡◌, ℕ, zero, suc, ◌+◌, ◌<◌, ◌≤◌, Bool, true, false, cond, eqb, ◌⊎◌, List, [], ◌∷◌, ◌++◌, map, length, get_or, set, ℤ, pos, negsuc, ◌+ℤ◌, nat_abs, ◌≤ℤ◌, Ordering, Less, Equal, Greater, sym, refl, ap, ◌∙◌, subst, ap₂, inl, inr, arith}
 use lib.IntN.{+ℤ_idl, +ℤ_idr}
-use Rattle.std.specs.List.{flat_map, AllByRecursion as All, range_with_len}
+use Rattle.std.specs.List.{flat_map, AllByRecursion, range_with_len}
 use Rattle.std.proofs.lemmas.Int.{ints}
 use Rattle.std.proofs.lemmas.Bool.{cases_eq, cases_lt, eq-eqb, ne_eqb}
 use Rattle.std.proofs.lemmas.List.{ext_get_or, get_or_past, get_or-set_same, get_or-set_other, length-set}
@@ -123,7 +123,7 @@ tally_low t q (l ∷ ls) = by (key_cases l t q) (tally_low t q ls)
     by (inl k) ih = let a = tally_cons t q l ls in let b = worth_key l t q k.0 k.1 in omega (arith, ints)
     by (inr k) ih = let a = tally_cons t q l ls in let b = k.1 in omega (arith, ints)
 
-pub tally_most : (t : ℕ) (q : Row) (ls : Stored) → All LawfulLine ls → Apart ls → tally t q ls ≤ℤ pos 65535
+pub tally_most : (t : ℕ) (q : Row) (ls : Stored) → AllByRecursion LawfulLine ls → Apart ls → tally t q ls ≤ℤ pos 65535
 unfolding count
 tally_most t q [] g p = omega (arith, ints)
 tally_most t q (l ∷ ls) g p = by (key_cases l t q) (tally_most t q ls g.1 (apart_tail l ls p))
@@ -164,7 +164,7 @@ canonical_bag ls s = canonical_collect (flat_map (line_on s) ls)
 pub canonical_shelf : (ls : Stored) (s : ℕ) → Canonical (get_or (shelves_of ls) s [])
 canonical_shelf ls s = any_shelf Canonical ls s tt (canonical_bag ls s)
 
-pub shelf_count : (ls : Stored) (s : ℕ) (q : Row) → All LawfulLine ls → count (get_or (shelves_of ls) s []) q ≡ tally s q ls
+pub shelf_count : (ls : Stored) (s : ℕ) (q : Row) → AllByRecursion LawfulLine ls → count (get_or (shelves_of ls) s []) q ≡ tally s q ls
 unfolding count
 shelf_count ls s q a = by (cases_lt s 16)
   where
@@ -214,7 +214,7 @@ pub some_copies : (n : ℕ) → 1 ≤ n → is_zero (pos n) ≡ false
 some_copies zero h = absurd (omega arith)
 some_copies (suc n) h = refl
 
-pub lines_are_length : (ls : Stored) → All LawfulLine ls → Apart ls → lines_on (shelves_of ls) ≡ length ls
+pub lines_are_length : (ls : Stored) → AllByRecursion LawfulLine ls → Apart ls → lines_on (shelves_of ls) ≡ length ls
 unfolding lines_on shelves_of bag_on collect
 lines_are_length [] a p = refl
 lines_are_length (l ∷ ls) a p = more (lines_are_length ls a.1 (apart_tail l ls p))

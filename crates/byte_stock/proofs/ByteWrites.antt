@@ -3,7 +3,7 @@
 --     append_laid    a line written behind the last
 --     shrink_laid    the last line blanked
 use Rattle.std.proofs.Common.{◌≡◌, ℕ, suc, ◌+◌, ◌-◌, ◌*◌, ◌<◌, ◌≤◌, List, [], ◌∷◌, ◌++◌, length, get_or, take, drop, set, replicate, sym, refl, ap, ◌∙◌, ap₂, append_assoc, arith}
-use Rattle.std.specs.List.{AllByRecursion as All}
+use Rattle.std.specs.List.{AllByRecursion}
 use Rattle.std.proofs.lemmas.List.{append-nil, drop_at, drop-drop, take_at, set_split, set-get_or, length-take-le, length-replicate, replicate-append-replicate, drop_all}
 use Rattle.std.proofs.ByRecursion.{All-take, All-get_or}
 use Rattle.bag.specs.Lines.{blank_stock_line}
@@ -36,19 +36,19 @@ split_at ls i l z h =
 own_split : (ls : Stored) (i : ℕ) (z : List ℕ) → i < length ls → layout ls ++ z ≡ layout (take i ls) ++ (line_bytes (line_of ls i) ++ (layout (drop (suc i) ls) ++ z))
 own_split ls i z h = ap (λ x. layout x ++ z) (sym (set-get_or ls i blank_stock_line)) ∙ split_at ls i (line_of ls i) z h
 
-front_long : (ls : Stored) (i : ℕ) → All LawfulLine ls → i < length ls → length (layout (take i ls)) ≡ 35 * i
+front_long : (ls : Stored) (i : ℕ) → AllByRecursion LawfulLine ls → i < length ls → length (layout (take i ls)) ≡ 35 * i
 front_long ls i a h = length_layout (take i ls) (All-take LawfulLine i ls a) ∙ ap (λ n. 35 * n) (length-take-le i ls (omega arith))
 
-old_long : (ls : Stored) (i : ℕ) → All LawfulLine ls → i < length ls → length (line_bytes (line_of ls i)) ≡ 35
+old_long : (ls : Stored) (i : ℕ) → AllByRecursion LawfulLine ls → i < length ls → length (line_bytes (line_of ls i)) ≡ 35
 old_long ls i a h = length_line (line_of ls i) (All-get_or LawfulLine ls i blank_stock_line h a).row.0
 
-pub set_laid : (ls : Stored) (i : ℕ) (l : StockLine) (z : List ℕ) → All LawfulLine ls → LawfulLine l → i < length ls → laid (layout ls ++ z) (35 * i) (line_bytes l) ≡ layout (set ls i l) ++ z
+pub set_laid : (ls : Stored) (i : ℕ) (l : StockLine) (z : List ℕ) → AllByRecursion LawfulLine ls → LawfulLine l → i < length ls → laid (layout ls ++ z) (35 * i) (line_bytes l) ≡ layout (set ls i l) ++ z
 set_laid ls i l z a k h =
     ap (λ b. laid b (35 * i) (line_bytes l)) (own_split ls i z h)
     ∙ laid_mid (layout (take i ls)) (line_bytes (line_of ls i)) (layout (drop (suc i) ls) ++ z) (line_bytes l) (35 * i) (front_long ls i a h) (old_long ls i a h ∙ sym (length_line l k.row.0))
     ∙ sym (split_at ls i l z h)
 
-pub append_laid : (ls : Stored) (l : StockLine) (m : ℕ) → All LawfulLine ls → LawfulLine l → 35 ≤ m → laid (layout ls ++ replicate m 0) (35 * length ls) (line_bytes l) ≡ layout (ls ++ l ∷ []) ++ replicate (m - 35) 0
+pub append_laid : (ls : Stored) (l : StockLine) (m : ℕ) → AllByRecursion LawfulLine ls → LawfulLine l → 35 ≤ m → laid (layout ls ++ replicate m 0) (35 * length ls) (line_bytes l) ≡ layout (ls ++ l ∷ []) ++ replicate (m - 35) 0
 unfolding layout
 append_laid ls l m a k h =
     let z : List ℕ = replicate (m - 35) 0 in
@@ -57,7 +57,7 @@ append_laid ls l m a k h =
     ∙ laid_mid (layout ls) (replicate 35 0) z (line_bytes l) (35 * length ls) (length_layout ls a) (length-replicate {A = ℕ} 35 0 ∙ sym (length_line l k.row.0))
     ∙ sym (ap (λ x. x ++ z) (layout-++ ls (l ∷ [])) ∙ append_assoc (layout ls) (line_bytes l ++ []) z ∙ ap (λ x. layout ls ++ (x ++ z)) (append-nil (line_bytes l)))
 
-pub shrink_laid : (ls : Stored) (m : ℕ) → All LawfulLine ls → 0 < length ls → laid (layout ls ++ replicate m 0) (35 * (length ls - 1)) (replicate 35 0) ≡ layout (take (length ls - 1) ls) ++ replicate (35 + m) 0
+pub shrink_laid : (ls : Stored) (m : ℕ) → AllByRecursion LawfulLine ls → 0 < length ls → laid (layout ls ++ replicate m 0) (35 * (length ls - 1)) (replicate 35 0) ≡ layout (take (length ls - 1) ls) ++ replicate (35 + m) 0
 unfolding layout
 shrink_laid ls m a h =
     let i = length ls - 1 in

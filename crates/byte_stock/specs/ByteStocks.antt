@@ -8,7 +8,7 @@
 --     PutLeft, TakeLeft    all that a put and a take leave in memory, and what they answer
 --     PutLeaves, TakeLeaves      the same of stocks
 use Rattle.std.specs.Prelude.{◌≡◌, ℕ, ◌/◌, ◌≤◌, min, List, length, Ok, Err, Result}
-use Rattle.std.specs.List.{AllByRecursion as All}
+use Rattle.std.specs.List.{AllByRecursion}
 use Rattle.bag.specs.Order.{Row}
 use Rattle.stock.specs.declared.fault.StockFault.{StockFault}
 use Rattle.byte_stock.specs.declared.bytes.ByteStock.{ByteStock}
@@ -26,7 +26,7 @@ held_in b len = holding_of (capacity_in (length b)) (stored_in len b)
 
 pub record SoundLines (b : List ℕ) (len : ℕ) : Type 0 where
   pub room : len ≤ capacity_in (length b)
-  pub lawful : All LawfulLine (stored_in len b)
+  pub lawful : AllByRecursion LawfulLine (stored_in len b)
   pub apart : Apart (stored_in len b)
   pub whole : b ≡ padded (length b) (stored_in len b)
   pub holding : LawfulHolding (held_in b len)

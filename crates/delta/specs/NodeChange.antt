@@ -11,7 +11,7 @@
 --                                    difference of the node's old bag and `new`; fit says whether every group that it shows fits
 --     over_at old d                  some changed row comes to a count above 65,535
 use Rattle.std.specs.Prelude.{◌≡◌, ℕ, ◌<◌, ◌≤◌, Bool, true, cond, not, List, [], ◌∷◌, ◌++◌, length, ℤ, pos, ◌+ℤ◌, Ok, Err, Result, int_le, slice_index}
-use Rattle.std.specs.List.{AllByRecursion as All}
+use Rattle.std.specs.List.{AllByRecursion}
 use Rattle.bag.specs.declared.lines.ChangeLine.{ChangeLine}
 use Rattle.bag.specs.Order.{Row}
 use Rattle.bag.specs.Columns.{OfWidth}
@@ -35,7 +35,7 @@ over_at old d = not (every_line (λ q n. within_count (count old q +ℤ n)) d)
 
 pub record LawfulRow (w : ℕ) (r : Row) : Type 0 where
   pub width : OfWidth w r
-  pub columns : All ShownColumn r
+  pub columns : AllByRecursion ShownColumn r
 
 pub record LowerNode (w : ℕ) (old d new : Lines) : Type 0 where
   pub changes : Changes old d new

@@ -6,7 +6,7 @@ use Rattle.std.proofs.Common.{◌≡◌, ℕ, ◌+◌, ◌*◌, ◌<◌, ◌≤�
 use lib.IntN.{+ℤ_idl}
 use Rattle.std.proofs.lemmas.List.{take_more, length-take}
 use Rattle.std.proofs.ByRecursion.{All-get_or, All-take}
-use Rattle.std.specs.List.{AllByRecursion as All}
+use Rattle.std.specs.List.{AllByRecursion}
 use Rattle.bag.specs.Order.{Row}
 use Rattle.bag.specs.Bag.{Line, Lines, count}
 use Rattle.bag.specs.Operators.{map_rows}

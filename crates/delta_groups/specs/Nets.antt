@@ -6,7 +6,7 @@
 --     SmallLines ys      every number is within ±65,535
 --     Nets t xs           the table t is sound and its entries are the lines xs
 use Rattle.std.specs.Prelude.{◌≡◌, ◌≤◌, List, [], ◌∷◌, ℤ, ◌+ℤ◌, unsigned_abs}
-use Rattle.std.specs.List.{AllByRecursion as All}
+use Rattle.std.specs.List.{AllByRecursion}
 use Rattle.bag.specs.declared.lines.ChangeLine.{ChangeLine}
 use Rattle.bag.specs.Order.{Row, row_order, change_line_order}
 use Rattle.bag.specs.Bag.{Line, Lines, Before, with_line}
@@ -36,7 +36,7 @@ without_zeros [] = []
 without_zeros (e ∷ xs) = with_line e.0 e.1 (without_zeros xs)
 
 abbrev pub SmallLines : Lines → Type 0
-SmallLines ys = All (λ e. unsigned_abs e.1 ≤ 65535) ys
+SmallLines ys = AllByRecursion (λ e. unsigned_abs e.1 ≤ 65535) ys
 
 pub record Nets (t : Table ChangeLine) (xs : Lines) : Type 0 where
   pub sound : Sound change_line_order blank_change_line t

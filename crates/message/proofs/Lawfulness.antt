@@ -5,7 +5,7 @@ use Rattle.std.proofs.lemmas.List.{take_more, drop_more, take-append-drop}
 use Rattle.std.proofs.lemmas.Int.{ints}
 use Rattle.std.proofs.lemmas.Bool.{eq-eqb, ne_eqb}
 use Rattle.message.specs.declared.record.Record.{Record}
-use Rattle.std.specs.List.{AllByRecursion as All}
+use Rattle.std.specs.List.{AllByRecursion}
 use Rattle.message.specs.Lawful.{column_lawful, columns_lawful, lawful, first_unlawful, InRange}
 
 pub smallest_by_bits : (v : ℤ) → SFits w32 v → of_z w32 v ≡ 2147483648 → column_lawful v ≡ false
@@ -51,5 +51,5 @@ module _ (rs : List Record) (i : ℕ) (d : Record) (lt : i < length rs) where
   pub unlawful_later : lawful (get_or rs i d) ≡ true → from i (first_unlawful (drop i rs)) ≡ from (i + 1) (first_unlawful (drop (i + 1) rs))
   unlawful_later e = ap (λ l. from i (first_unlawful l)) (drop_more rs i d lt) ∙ rw e (from_next i (first_unlawful (drop (i + 1) rs)))
 
-pub in_range : (r : Record) → length r.row ≡ 8 → All (SFits w32) r.row → r.count < 65536 → InRange r
+pub in_range : (r : Record) → length r.row ≡ 8 → AllByRecursion (SFits w32) r.row → r.count < 65536 → InRange r
 in_range r eight fits small = record { eight = eight; columns = fits; count = small }

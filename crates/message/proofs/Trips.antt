@@ -1,6 +1,6 @@
 -- Whole messages, read and written and written and read.
 use Rattle.std.proofs.Common.{◌≡◌, ℕ, zero, suc, ◌+◌, ◌-◌, ◌≤◌, Bool, true, false, cond, ltb, List, [], ◌∷◌, ◌++◌, length, take, drop, Some, None, Ok, Err, Option, Result, sym, refl, ap, ◌∙◌, arith, length-append}
-use Rattle.std.specs.List.{AllByRecursion as All}
+use Rattle.std.specs.List.{AllByRecursion}
 use Rattle.std.specs.Option.{option_map}
 use Rattle.std.proofs.lemmas.List.{take_at}
 use Rattle.std.proofs.lemmas.Bool.{ltb-false}
@@ -71,7 +71,7 @@ some_bytes : (n at : ℕ) (r : Record) (xs : List ℕ) → reading_from (suc n) 
 unfolding encode reading_from
 some_bytes n at r xs = refl
 
-pub read_back : (n at : ℕ) (rs : List Record) → All InRange rs → first_unlawful rs ≡ None → length rs ≤ n → records_of (reading_from n at (encode_all rs)) ≡ Ok rs
+pub read_back : (n at : ℕ) (rs : List Record) → AllByRecursion InRange rs → first_unlawful rs ≡ None → length rs ≤ n → records_of (reading_from n at (encode_all rs)) ≡ Ok rs
 unfolding records_of reading_from
 read_back zero at [] h l k = refl
 read_back (suc n) at [] h l k = refl
@@ -112,7 +112,7 @@ accepted rs n buffer after e = long (ltb 1024 (length rs)) refl e
     long true l e = absurd (never (refusal 3 1024) e)
     long false l e = unlawful (ltb-false 1024 (length rs) l) (first_unlawful rs) refl e
 
-read_after_write : (rs : List Record) (n : ℕ) (buffer after : List ℕ) → All InRange rs → written rs buffer ≡ (Ok n, after) → records_of (reading (take n after)) ≡ Ok rs
+read_after_write : (rs : List Record) (n : ℕ) (buffer after : List ℕ) → AllByRecursion InRange rs → written rs buffer ≡ (Ok n, after) → records_of (reading (take n after)) ≡ Ok rs
 read_after_write rs n buffer after h e =
     let a = accepted rs n buffer after e in
     let t : take n after ≡ encode_all rs = ap (take n) a.after_is ∙ take_at (encode_all rs) (drop (length (encode_all rs)) buffer) n (sym a.length_is) in
@@ -148,7 +148,7 @@ room_of rs n buffer after e =
     omega (arith, ap length a.after_is, length-append (encode_all rs) (drop (length (encode_all rs)) buffer), a.length_is)
 
 -- records that were written, read again: they are the same, and nothing refuses them
-module _ (rs : List Record) (n : ℕ) (buffer after : List ℕ) (range : All InRange rs) (e : written rs buffer ≡ (Ok n, after)) where
+module _ (rs : List Record) (n : ℕ) (buffer after : List ℕ) (range : AllByRecursion InRange rs) (e : written rs buffer ≡ (Ok n, after)) where
   again : records_of (reading (take (n - 0) after)) ≡ Ok rs
   again =
       let k : n - 0 ≡ n = omega arith in

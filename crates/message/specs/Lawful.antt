@@ -5,7 +5,7 @@
 --   In-range         eight columns, each a signed number of 32 bits, and a count of 16 bits: what the type Record holds
 use Rattle.std.specs.Prelude.{◌≡◌, ℕ, suc, ◌<◌, Bool, true, cond, not, ◌&&◌, List, [], ◌∷◌, length, ℤ, pos, negsuc, Some, None, Option, FitsSigned, ◌==◌, nat_le}
 use Rattle.std.specs.Option.{option_map}
-use Rattle.std.specs.List.{AllByRecursion as All}
+use Rattle.std.specs.List.{AllByRecursion}
 use Rattle.message.specs.declared.record.Record.{Record}
 use Rattle.std.specs.Int.{w32}
 
@@ -26,5 +26,5 @@ first_unlawful (r ∷ rs) = cond (lawful r) (option_map suc (first_unlawful rs))
 
 pub record InRange (r : Record) : Type 0 where
   pub eight : length r.row ≡ 8
-  pub columns : All (FitsSigned w32) r.row
+  pub columns : AllByRecursion (FitsSigned w32) r.row
   pub count : r.count < 65536

@@ -6,7 +6,7 @@
 --   Cursor-reads         the steps of a cursor answer the records in order, then none or the refusal, again and again
 --   Cursor-stands        after i steps the cursor stands behind the bytes of the records that these answered, and a refusal's place is there
 use Rattle.std.specs.Prelude.{◌≡◌, ℕ, ◌≤◌, List, ◌++◌, length, drop, None, Ok, Err}
-use Rattle.std.specs.List.{slice_get, AllByRecursion as All}
+use Rattle.std.specs.List.{slice_get, AllByRecursion}
 use Rattle.bag.specs.Refusal.{Refusal}
 use Rattle.message.specs.declared.record.Record.{Record}
 use Rattle.message.specs.Limits.{max_records}
@@ -23,7 +23,7 @@ ReadThenWritten =
 
 -- records that a message can hold
 pub record Holdable (rs : List Record) : Type 0 where
-  pub range : All InRange rs
+  pub range : AllByRecursion InRange rs
   pub law : first_unlawful rs ≡ None
   pub few : length rs ≤ max_records
 

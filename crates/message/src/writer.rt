@@ -1,6 +1,6 @@
 ghost use Rattle.std.specs.Prelude.{◌≡◌, ◌≤◌, true, length, IfNone, FitsSigned, OnOk};
 ghost use Rattle.std.specs.Int.{w32};
-ghost use Rattle.std.specs.List.{AllByRecursion as All};
+ghost use Rattle.std.specs.List.{AllByRecursion};
 ghost use Rattle.message.specs.Refusal.{write_told};
 ghost use Rattle.message.specs.Lawful.{columns_lawful as columnsLawful, lawful as lawfulRecord, first_unlawful as firstUnlawful, InRange};
 ghost use Rattle.message.specs.Buffer.{laid};
@@ -14,7 +14,7 @@ use bag::row::Row;
 
 fn columns_lawful(row: &Row) -> bool
     ensures is { result ≡ columnsLawful row.now }
-    ensures range { result ≡ true → All (FitsSigned w32) row.now }
+    ensures range { result ≡ true → AllByRecursion (FitsSigned w32) row.now }
 {
     for k in 0..8 {
         if row[k] == i32::MIN {
@@ -36,7 +36,7 @@ fn lawful(record: &Record) -> bool
 
 fn first_unlawful(records: &[Record]) -> Option<usize>
     ensures is { result ≡ firstUnlawful records.now }
-    ensures range { IfNone result (All InRange records.now) }
+    ensures range { IfNone result (AllByRecursion InRange records.now) }
 {
     for i in 0..records.len() {
         if !lawful(&records[i]) {
@@ -72,7 +72,7 @@ fn put_records(buffer: &mut [u8], records: &[Record])
 // Bytes behind the message stay, and a refusal leaves the whole buffer as it was.
 pub fn write(records: &[Record], buffer: &mut [u8]) -> Result<usize, WriteFault>
     ensures answer { (write_told result, buffer.new) ≡ written records.now buffer.old }
-    ensures range { OnOk result (All InRange records.now) }
+    ensures range { OnOk result (AllByRecursion InRange records.now) }
 {
     if records.len() > MAX_RECORDS {
         return Err(WriteFault::Long);

@@ -6,7 +6,7 @@
 --     reached_end, reached_refused, reached_misfit      how it ends
 --     reached_nets         what the table has then
 use Rattle.std.proofs.Common.{◌≡◌, ℕ, suc, ◌+◌, ◌*◌, ◌<◌, ◌≤◌, Bool, true, false, cond, List, [], ◌∷◌, ◌++◌, map, length, ℤ, pos, ◌+ℤ◌, neg_ℤ, ◌≤ℤ◌, Ok, Err, Result, Ordering, Less, Equal, Greater, sym, refl, ap, ◌∙◌, subst, append_assoc, arith, w32, SFits}
-use Rattle.std.specs.List.{AllByRecursion as All}
+use Rattle.std.specs.List.{AllByRecursion}
 use Rattle.std.proofs.lemmas.List.{length-map, length-append, map-append, append-nil}
 use Rattle.std.proofs.ByRecursion.{All-push, All-weaker}
 use Rattle.std.proofs.lemmas.Int.{ints}
@@ -69,7 +69,7 @@ sum_within n a b v w =
     let t = w.1 in
     (omega (arith, ints), omega (arith, ints))
 
-count_within : (m : List Record) → All Counted m → (q : Row) → Within (65535 * length m) (count (map keyed_movement m) q)
+count_within : (m : List Record) → AllByRecursion Counted m → (q : Row) → Within (65535 * length m) (count (map keyed_movement m) q)
 unfolding count
 count_within [] all q = (omega (arith, ints), omega (arith, ints))
 count_within (r ∷ m) all q = sum_within (length m) (copies_at q (key r.node r.row) (signed_copies r)) (count (map keyed_movement m) q) (at_within (row_order (key r.node r.row) q) (signed_copies r) (copies_within r all.0)) (count_within m all.1 q)
@@ -95,8 +95,8 @@ module _ (nodes : List Node) (bytes : List ℕ) where
   pub record Reached (s t : Table ChangeLine) (at seen : ℕ) : Type 0 where
     pub movements : List Record
     pub many : length movements ≡ seen
-    pub counted : All Counted movements
-    pub based : All (λ r. of_base nodes r ≡ true) movements
+    pub counted : AllByRecursion Counted movements
+    pub based : AllByRecursion (λ r. of_base nodes r ≡ true) movements
     pub answer : prefixed movements (movements_in nodes (onward bytes at seen)) ≡ gathered nodes bytes
     pub until : movements ++ movements_until nodes (onward bytes at seen) ≡ gathered_until nodes bytes
     pub nets : Empty s → Netted movements t
@@ -192,5 +192,5 @@ module _ (nodes : List Node) (bytes : List ℕ) where
     pub reached_nets : (o : Result (List Record) Told) → Ended o → length nodes ≤ 16 → Kept s → items s ≡ [] → 1024 ≤ capacity s → items t ≡ nets_of (gathered_until nodes bytes)
     reached_nets o d few kept none long =
         let n = x.nets (record { kept = kept; none = none; long = long }) in
-        let low : All (λ r. r.node ≤ 15) x.movements = All-weaker (λ r. of_base nodes r ≡ true) (λ r. r.node ≤ 15) (λ r b. let l = base_low nodes r b in omega arith) x.movements x.based in
+        let low : AllByRecursion (λ r. r.node ≤ 15) x.movements = All-weaker (λ r. of_base nodes r ≡ true) (λ r. r.node ≤ 15) (λ r b. let l = base_low nodes r b in omega arith) x.movements x.based in
         keyed_same (items t) (nets_of x.movements) (n.changed ∙ sym (keyed_nets x.movements low)) ∙ ap nets_of (sym d.until)

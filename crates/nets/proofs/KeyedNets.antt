@@ -6,7 +6,7 @@
 --     length_collect       collecting makes no list longer
 use Rattle.std.proofs.Common.{◌≡◌, ℕ, zero, suc, ◌+◌, ◌<◌, ◌≤◌, Bool, true, false, cond, eqb, List, [], ◌∷◌, ◌++◌, map, length, ℤ, ◌+ℤ◌, sym, refl, ap, ◌∙◌, subst, ap₂, arith}
 use lib.IntN.{+ℤ_idr, +ℤ_comm}
-use Rattle.std.specs.List.{AllByRecursion as All}
+use Rattle.std.specs.List.{AllByRecursion}
 use Rattle.std.proofs.lemmas.List.{map-append}
 use Rattle.std.proofs.ByRecursion.{All-weaker}
 use Rattle.std.proofs.lemmas.Int.{ints}
@@ -82,16 +82,16 @@ nets_others (suc n) i k m l = ap₂ (λ (d : Lines) ds. d ∷ ds) (ap collect (m
 abbrev Between : ℕ → ℕ → Record → Type 0
 Between k n r = (k ≤ r.node) × (r.node < k + n)
 
-all_others : (k n : ℕ) (m : List Record) → All (Between k (suc n)) m → All (Between (suc k) n) (others k m)
+all_others : (k n : ℕ) (m : List Record) → AllByRecursion (Between k (suc n)) m → AllByRecursion (Between (suc k) n) (others k m)
 unfolding others
 all_others k n [] all = tt
 all_others k n (r ∷ m) all = by (eqb r.node k) refl (all_others k n m all.1)
   where
-    by : (b : Bool) → eqb r.node k ≡ b → All (Between (suc k) n) (others k m) → All (Between (suc k) n) (cond b (others k m) (r ∷ others k m))
+    by : (b : Bool) → eqb r.node k ≡ b → AllByRecursion (Between (suc k) n) (others k m) → AllByRecursion (Between (suc k) n) (cond b (others k m) (r ∷ others k m))
     by true e rec = rec
     by false e rec = let ne = eqb-false r.node k e in let l = all.0.0 in let u = all.0.1 in let a : suc k ≤ r.node = omega (arith, ne) in ((a, omega arith), rec)
 
-count_nets : (n k : ℕ) (m : List Record) (q : Row) → All (Between k n) m → count (map keyed (flattened k (nets_from k n m))) q ≡ count (map keyed_movement m) q
+count_nets : (n k : ℕ) (m : List Record) (q : Row) → AllByRecursion (Between k n) m → count (map keyed (flattened k (nets_from k n m))) q ≡ count (map keyed_movement m) q
 unfolding nets_from flattened count
 count_nets zero k [] q all = refl
 count_nets zero k (r ∷ m) q all = let l = all.0.0 in let u = all.0.1 in absurd (let z : ⊥ = omega arith in z)
@@ -118,7 +118,7 @@ unfolding nets_from flattened
 canonical_nets zero k m = tt
 canonical_nets (suc n) k m = canonical_then k (net_of k m) (flattened (suc k) (nets_from (suc k) n m)) (canonical_collect (movements_of k m)) (canonical_nets n (suc k) m) (λ r. before_flattened r k (suc k) (nets_from (suc k) n m) (omega arith))
 
-pub keyed_nets : (m : List Record) → All (λ r. r.node ≤ 15) m → map keyed (nets_of m) ≡ collect (map keyed_movement m)
+pub keyed_nets : (m : List Record) → AllByRecursion (λ r. r.node ≤ 15) m → map keyed (nets_of m) ≡ collect (map keyed_movement m)
 keyed_nets m low =
     equal_counts (map keyed (nets_of m)) (collect (map keyed_movement m)) (canonical_nets 16 0 m) (canonical_collect (map keyed_movement m))
     (λ q. count_nets 16 0 m q (All-weaker (λ r. r.node ≤ 15) (Between 0 16) (λ r l. (omega arith, omega arith)) m low) ∙ sym (count_collect (map keyed_movement m) q))

@@ -4,7 +4,7 @@
 use Rattle.std.proofs.Common.{◌≡◌, ℕ, zero, suc, ◌+◌, ◌-◌, ◌*◌, ◌<◌, ◌≤◌, Bool, true, false, cond, not, ◌&&◌, eqb, leb, List, [], ◌∷◌, ◌++◌, length, ℤ, pos, negsuc, Some, None, Ok, Err, Option, Result, sym, refl, ap, ◌∙◌, subst, arith, w32, SFits, to_z, rules}
 use mir.ValLaws.{to_z-Fits}
 use Rattle.std.specs.Option.{option_map}
-use Rattle.std.specs.List.{AllByRecursion as All}
+use Rattle.std.specs.List.{AllByRecursion}
 use Rattle.std.proofs.lemmas.List.{length-append}
 use Rattle.std.proofs.ByRecursion.{All-push}
 use Rattle.std.proofs.lemmas.Bool.{eqb-true, eqb-false}
@@ -41,7 +41,7 @@ both : (a b : Bool) → a && b ≡ true → (a ≡ true) × (b ≡ true)
 both true b h = (refl, h)
 both false b h = let z : ◌≡◌ {A = ℕ} 0 1 = cc in absurd (omega arith)
 
-shown_row : (row : List ℤ) → All (SFits w32) row → columns_lawful row ≡ true → All ShownColumn row
+shown_row : (row : List ℤ) → AllByRecursion (SFits w32) row → columns_lawful row ≡ true → AllByRecursion ShownColumn row
 shown_row [] all l = tt
 shown_row (v ∷ row) all l = let p = both (column_lawful v) (columns_lawful row) l in (shown v all.0 p.0, shown_row row all.1 p.1)
 
@@ -72,7 +72,7 @@ ranged_column true (a ∷ b ∷ c ∷ d ∷ xs) v rest h e =
 
 pub record Ranged (k : ℕ) (row : List ℤ) (rest : List ℕ) : Type 0 where
   pub long : length row ≡ k
-  pub columns : All (SFits w32) row
+  pub columns : AllByRecursion (SFits w32) row
   pub left : Bytes rest
 
 ranged_columns : (k map : ℕ) (xs : List ℕ) (row : List ℤ) (rest : List ℕ) → Bytes xs → columns k map xs ≡ Some (row, rest) → Ranged k row rest
@@ -97,18 +97,18 @@ ranged_columns (suc k) map xs row rest h e = by (columns k map xs) refl e (λ r 
 
 -- a record that was decoded has a row of eight such columns
 abbrev RowRead : Record → Type 0
-RowRead r = (length r.row ≡ 8) × All (SFits w32) r.row
+RowRead r = (length r.row ≡ 8) × AllByRecursion (SFits w32) r.row
 
 ranged_fields : (map : ℕ) (xs : List ℕ) (got : Record × List ℕ) → Bytes xs → fields map xs ≡ Some got → RowRead got.0
 ranged_fields map xs got h e = by (columns 8 map xs) refl e
   where
-    at_node : (row : List ℤ) → (length row ≡ 8) × All (SFits w32) row → (n : ℕ) (o : Option (ℕ × List ℕ)) → then {Y = Record × List ℕ} o (λ s. Some (record { row = row; count = n; node = s.0; take = bit map 10 }, s.1)) ≡ Some got → RowRead got.0
+    at_node : (row : List ℤ) → (length row ≡ 8) × AllByRecursion (SFits w32) row → (n : ℕ) (o : Option (ℕ × List ℕ)) → then {Y = Record × List ℕ} o (λ s. Some (record { row = row; count = n; node = s.0; take = bit map 10 }, s.1)) ≡ Some got → RowRead got.0
     at_node row g n None e = let z : ◌≡◌ {A = ℕ} 0 1 = cc in absurd (omega arith)
     at_node row g n (Some s) e =
         let q : ◌≡◌ {A = Record × List ℕ} (record { row = row; count = n; node = s.0; take = bit map 10 }, s.1) got = cc in
         subst (λ (p : Record × List ℕ). RowRead p.0) q g
 
-    at_count : (row : List ℤ) → (length row ≡ 8) × All (SFits w32) row → (o : Option (ℕ × List ℕ)) → then {Y = Record × List ℕ} o (λ n. then {Y = Record × List ℕ} (node_field (bit map 9) n.1) (λ s. Some (record { row = row; count = n.0; node = s.0; take = bit map 10 }, s.1))) ≡ Some got → RowRead got.0
+    at_count : (row : List ℤ) → (length row ≡ 8) × AllByRecursion (SFits w32) row → (o : Option (ℕ × List ℕ)) → then {Y = Record × List ℕ} o (λ n. then {Y = Record × List ℕ} (node_field (bit map 9) n.1) (λ s. Some (record { row = row; count = n.0; node = s.0; take = bit map 10 }, s.1))) ≡ Some got → RowRead got.0
     at_count row g None e = let z : ◌≡◌ {A = ℕ} 0 1 = cc in absurd (omega arith)
     at_count row g (Some n) e = at_node row g n.0 (node_field (bit map 9) n.1) e
 
@@ -129,24 +129,24 @@ ranged_decoded at (a ∷ b ∷ xs) got h e = by (fields (a * 256 + b) xs) refl e
     by None q e = let z : ◌≡◌ {A = ℕ} 0 1 = cc in absurd (omega arith)
     by (Some f) q e = subst (λ (p : Record × List ℕ). RowRead p.0) (passed f (allowed (a * 256 + b) f.0) (read_refusal (Map at)) e) (ranged_fields (a * 256 + b) xs f h.1.1 q)
 
-ranged_in : (n at : ℕ) (xs : List ℕ) (m : List Record) → Bytes xs → records_of (reading_from n at xs) ≡ Ok m → All RowRead m
+ranged_in : (n at : ℕ) (xs : List ℕ) (m : List Record) → Bytes xs → records_of (reading_from n at xs) ≡ Ok m → AllByRecursion RowRead m
 unfolding reading_from records_of
-ranged_in zero at [] m h e = let s : [] ≡ m = cc in subst (All RowRead) s tt
-ranged_in (suc n) at [] m h e = let s : [] ≡ m = cc in subst (All RowRead) s tt
+ranged_in zero at [] m h e = let s : [] ≡ m = cc in subst (AllByRecursion RowRead) s tt
+ranged_in (suc n) at [] m h e = let s : [] ≡ m = cc in subst (AllByRecursion RowRead) s tt
 ranged_in zero at (b ∷ xs) m h e = let z : ◌≡◌ {A = ℕ} 0 1 = cc in absurd (omega arith)
 ranged_in (suc n) at (b ∷ xs) m h e = by (decode at (b ∷ xs)) refl e (λ at' ys ss l. ranged_in n at' ys ss l)
   where
     by : (d : Result (Record × List ℕ) Refusal) → decode at (b ∷ xs) ≡ d → records_of (proceed at d (λ rest. reading_from n (at + (length (b ∷ xs) - length rest)) rest)) ≡ Ok m
-        → ((at : ℕ) (ys : List ℕ) (ss : List Record) → Bytes ys → records_of (reading_from n at ys) ≡ Ok ss → All RowRead ss) → All RowRead m
+        → ((at : ℕ) (ys : List ℕ) (ss : List Record) → Bytes ys → records_of (reading_from n at ys) ≡ Ok ss → AllByRecursion RowRead ss) → AllByRecursion RowRead m
     by (Err f) d e again = let z : ◌≡◌ {A = ℕ} 0 1 = cc in absurd (omega arith)
     by (Ok got) d e again =
         let w = decode_was at (b ∷ xs) got.0 got.1 h d in
         let to = at + (length (b ∷ xs) - length got.1) in
         let s = behind_ok got.0 (records_of (reading_from n to got.1)) m e in
-        subst (All RowRead) (sym s.2) (ranged_decoded at (b ∷ xs) got h d, again to got.1 s.0 w.left s.1)
+        subst (AllByRecursion RowRead) (sym s.2) (ranged_decoded at (b ∷ xs) got h d, again to got.1 s.0 w.left s.1)
 
 module _ (nodes : List Node) where
-  rows_moved : (m : List Record) → All RowRead m → first_unlawful m ≡ None → All (λ r. of_base nodes r ≡ true) m → (i w : ℕ) → base_at nodes i ≡ Some w → EachRow (BaseRow w) (movements_of i m)
+  rows_moved : (m : List Record) → AllByRecursion RowRead m → first_unlawful m ≡ None → AllByRecursion (λ r. of_base nodes r ≡ true) m → (i w : ℕ) → base_at nodes i ≡ Some w → EachRow (BaseRow w) (movements_of i m)
   unfolding movements_of
   rows_moved [] range law all i w h = tt
   rows_moved (r ∷ m) range law all i w h = let f = first_lawful r m law in by (eqb r.node i) refl f.0 (rows_moved m range.1 f.1 all.1 i w h)

@@ -13,7 +13,7 @@
 --                           a base; a node that is no base has no net, and the rows of a base's net are as wide as the base
 use Rattle.std.specs.Prelude.{◌≡◌, ℕ, ◌+◌, ◌≤◌, Bool, true, false, cond, not, ◌&&◌, List, [], ◌∷◌, length, pos, ◌-ℤ◌, Some, None, Ok, ◌==◌}
 use Rattle.std.specs.Ordering.{is_eq}
-use Rattle.std.specs.List.{AllByRecursion as All}
+use Rattle.std.specs.List.{AllByRecursion}
 use Rattle.bag.specs.declared.lines.ChangeLine.{ChangeLine}
 use Rattle.bag.specs.Order.{Row, row_order, change_line_order}
 use Rattle.bag.specs.Columns.{column_of, OfWidth}
@@ -45,10 +45,10 @@ at_node i (l ∷ ls) = cond (l.node == i) ((l.row, l.change) ∷ at_node i ls) (
 
 pub record AscendingLines (ls : List ChangeLine) : Type 0 where
   pub ascend : Ascending change_line_order ls
-  pub some : All (λ l. is_zero l.change ≡ false) ls
+  pub some : AllByRecursion (λ l. is_zero l.change ≡ false) ls
 
 abbrev pub BaseRow : ℕ → Row → Type 0
-BaseRow w q = OfWidth w q × All ShownColumn q
+BaseRow w q = OfWidth w q × AllByRecursion ShownColumn q
 
 abbrev pub NetRows : List Node → List Record → Type 0
 NetRows nodes m = (i w : ℕ) → base_at nodes i ≡ Some w → EachRow (BaseRow w) (net_of i m)
@@ -59,7 +59,7 @@ pub record NetLaws : Type 0 where
   pub by_node : (m : List Record) (i : ℕ) → i ≤ 15 → at_node i (nets_of m) ≡ net_of i m
   pub as_read : (nodes : List Node) (bytes : List ℕ) (m : List Record) → gathered nodes bytes ≡ Ok m → records_of (reading bytes) ≡ Ok m
   pub few : (nodes : List Node) (bytes : List ℕ) (m : List Record) → gathered nodes bytes ≡ Ok m → length m ≤ max_records
-  pub of_bases : (nodes : List Node) (bytes : List ℕ) (m : List Record) → gathered nodes bytes ≡ Ok m → All (λ r. of_base nodes r ≡ true) m
+  pub of_bases : (nodes : List Node) (bytes : List ℕ) (m : List Record) → gathered nodes bytes ≡ Ok m → AllByRecursion (λ r. of_base nodes r ≡ true) m
   pub only_bases : (nodes : List Node) (bytes : List ℕ) (m : List Record) → gathered nodes bytes ≡ Ok m → (i : ℕ) → base_at nodes i ≡ None → net_of i m ≡ []
   pub widths : (nodes : List Node) (bytes : List ℕ) (m : List Record) → gathered nodes bytes ≡ Ok m → (i w : ℕ) → base_at nodes i ≡ Some w →
       EachRow (λ q. (j : ℕ) → w ≤ j → column_of q j ≡ pos 0) (net_of i m)

@@ -1,6 +1,6 @@
 -- Bytes that are no plan: where they break, there they are refused.
 use Rattle.std.proofs.Common.{◌≡◌, ℕ, zero, suc, ◌+◌, ◌-◌, ◌<◌, ◌≤◌, true, List, [], ◌∷◌, ◌++◌, length, Ok, Err, Result, sym, refl, ap, ◌∙◌, subst, append_assoc, arith, length-append}
-use Rattle.std.specs.List.{AllByRecursion as All}
+use Rattle.std.specs.List.{AllByRecursion}
 use Rattle.std.proofs.lemmas.Bool.{and_parts, and_from}
 use Rattle.bag.specs.Bytes.{Bytes}
 use Rattle.plan.specs.declared.fault.Cause.{Cause}
@@ -29,7 +29,7 @@ record Stopped (steps k i : ℕ) (ws bytes : List ℕ) (e : Refusal) : Type 0 wh
   many : i + length before ≡ fault.node
   few : length before ≤ steps
   fit : lawful k ws before ≡ true
-  range : All InRange before
+  range : AllByRecursion InRange before
   beyond : 1 ≤ length rest
   none : (x : Node) (ys : List ℕ) → length before < steps → fits k (widths k ws before) x ≡ true → InRange x → rest ≡ encode x ++ ys → ⊥
 
@@ -101,7 +101,7 @@ refused_where_broken k bytes e h f =
     subst (λ (d : Refusal). (d.number ≡ 12) × BrokenAt k bytes d.place.0) (sym t.1) (refl, broken k bytes t.0.node t.2)
 
 -- whole nodes are read, and what comes behind them is refused
-behind_whole : (n s k i : ℕ) (ws : List ℕ) (xs : List Node) (rest : List ℕ) (f : Refusal) → n ≡ length xs + s → lawful k ws xs ≡ true → All InRange xs → nodes s k (i + length xs) (widths k ws xs) rest ≡ Err f → nodes n k i ws (encode_all xs ++ rest) ≡ Err f
+behind_whole : (n s k i : ℕ) (ws : List ℕ) (xs : List Node) (rest : List ℕ) (f : Refusal) → n ≡ length xs + s → lawful k ws xs ≡ true → AllByRecursion InRange xs → nodes s k (i + length xs) (widths k ws xs) rest ≡ Err f → nodes n k i ws (encode_all xs ++ rest) ≡ Err f
 unfolding lawful widths
 behind_whole n s k i ws [] rest f e l r g =
     let z : n ≡ s = omega arith in
@@ -134,7 +134,7 @@ unfolding nodes
 no_step k i ws [] h = absurd (omega arith)
 no_step k i ws (b ∷ bytes) h = refl
 
-refused_behind : (k : ℕ) (xs : List Node) (rest : List ℕ) → Bytes rest → lawful k [] xs ≡ true → All InRange xs → 1 ≤ length rest → (s : ℕ) → 16 ≡ length xs + s → ((x : Node) (ys : List ℕ) → length xs < 16 → fits k (widths k [] xs) x ≡ true → InRange x → rest ≡ encode x ++ ys → ⊥) → (c : Cause) × (checked k (encode_all xs ++ rest) ≡ Err (plan_refusal (fault_at (0 + length xs) c)))
+refused_behind : (k : ℕ) (xs : List Node) (rest : List ℕ) → Bytes rest → lawful k [] xs ≡ true → AllByRecursion InRange xs → 1 ≤ length rest → (s : ℕ) → 16 ≡ length xs + s → ((x : Node) (ys : List ℕ) → length xs < 16 → fits k (widths k [] xs) x ≡ true → InRange x → rest ≡ encode x ++ ys → ⊥) → (c : Cause) × (checked k (encode_all xs ++ rest) ≡ Err (plan_refusal (fault_at (0 + length xs) c)))
 refused_behind k xs rest h l r one s e none =
     let some : 1 ≤ length (encode_all xs ++ rest) = simp length-append (omega arith) in
     let start = checked_some k (encode_all xs ++ rest) some in

@@ -1,6 +1,6 @@
 -- Whole plans, there and back.
 use Rattle.std.proofs.Common.{◌≡◌, ℕ, zero, suc, ◌+◌, ◌≤◌, true, List, [], ◌∷◌, ◌++◌, length, Ok, Err, Result, sym, refl, ap, ◌∙◌, subst, arith, length-append}
-use Rattle.std.specs.List.{AllByRecursion as All}
+use Rattle.std.specs.List.{AllByRecursion}
 use Rattle.std.proofs.lemmas.Bool.{and_parts, and_from}
 use Rattle.plan.specs.declared.node.Node.{Node}
 use Rattle.plan.specs.declared.node.Node.TheVariants.{Base, Keep, Pick, Pair, Both, Less, Total}
@@ -31,7 +31,7 @@ record Whole (steps k : ℕ) (ws bytes : List ℕ) (xs : List Node) : Type 0 whe
   fit : lawful k ws xs ≡ true
   few : length xs ≤ steps
   code : Bytes bytes → bytes ≡ encode_all xs
-  range : Bytes bytes → All InRange xs
+  range : Bytes bytes → AllByRecursion InRange xs
 
 nothing : (steps k : ℕ) (ws : List ℕ) (xs : List Node) → ◌≡◌ {A = Result (List Node) Refusal} (Ok []) (Ok xs) → Whole steps k ws [] xs
 unfolding lawful
@@ -81,7 +81,7 @@ unfolding nodes
 nodes_nil zero k i ws = refl
 nodes_nil (suc s) k i ws = refl
 
-nodes_read : (s k i : ℕ) (ws : List ℕ) (xs : List Node) → length xs ≤ s → lawful k ws xs ≡ true → All InRange xs → nodes s k i ws (encode_all xs) ≡ Ok xs
+nodes_read : (s k i : ℕ) (ws : List ℕ) (xs : List Node) → length xs ≤ s → lawful k ws xs ≡ true → AllByRecursion InRange xs → nodes s k i ws (encode_all xs) ≡ Ok xs
 unfolding lawful
 nodes_read s k i ws [] l e r = nodes_nil s k i ws
 nodes_read zero k i ws (x ∷ xs) l e r = absurd (omega arith)

@@ -14,7 +14,7 @@
 --   Lawful-plan    1 to 16 nodes that are lawful, under a measure that shows k columns
 use Rattle.std.specs.Prelude.{◌≡◌, ℕ, ◌+◌, ◌≤◌, Bool, true, ◌&&◌, ltb, List, [], ◌∷◌, ◌++◌, length, take, drop, FitsSigned, ◌==◌, nat_eq, nat_le, nat_lt, slice_index}
 use Rattle.std.specs.Int.{w32}
-use Rattle.std.specs.List.{AllByRecursion as All}
+use Rattle.std.specs.List.{AllByRecursion}
 use Rattle.bag.specs.declared.condition.Operand.{Operand}
 use Rattle.bag.specs.declared.condition.Operand.TheVariants.{Constant, Column}
 use Rattle.plan.specs.declared.node.ColumnPair.{ColumnPair}
@@ -94,4 +94,4 @@ pub record LawfulPlan (k : ℕ) (xs : List Node) : Type 0 where
   pub some : 1 ≤ length xs
   pub few : length xs ≤ 16
   pub fit : lawful k [] xs ≡ true
-  pub range : All InRange xs
+  pub range : AllByRecursion InRange xs

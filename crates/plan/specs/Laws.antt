@@ -18,7 +18,7 @@
 --   Never-both               neither accepted bytes nor the encoding of a lawful plan break anywhere
 --   Widths-one-to-eight      the rows of every node of a lawful plan are 1 to 8 wide
 use Rattle.std.specs.Prelude.{◌≡◌, ℕ, ◌<◌, ◌≤◌, true, List, [], ◌++◌, length, Ok, Err, Result, ◌≢◌, slice_index}
-use Rattle.std.specs.List.{AllByRecursion as All}
+use Rattle.std.specs.List.{AllByRecursion}
 use Rattle.plan.specs.declared.fault.PlanFault.{PlanFault}
 use Rattle.plan.specs.declared.node.Node.{Node}
 use Rattle.plan.specs.Refusal.{Refusal, plan_refusal}
@@ -44,7 +44,7 @@ pub record BrokenAt (k : ℕ) (bytes : List ℕ) (node : ℕ) : Type 0 where
   pub many : length whole ≡ node
   pub few : length whole ≤ 16
   pub fit : lawful k [] whole ≡ true
-  pub range : All InRange whole
+  pub range : AllByRecursion InRange whole
   pub more : length whole ≡ 16 → 1 ≤ length rest
   pub none : (x : Node) (ys : List ℕ) → length whole < 16 → fits k (widths k [] whole) x ≡ true → InRange x → rest ≢ encode x ++ ys
 
@@ -68,7 +68,7 @@ pub record BreaksAt (k : ℕ) (bytes : List ℕ) (node : ℕ) : Type 0 where
   pub many : length whole ≡ node
   pub few : length whole ≤ 16
   pub fit : lawful k [] whole ≡ true
-  pub range : All InRange whole
+  pub range : AllByRecursion InRange whole
   pub more : 1 ≤ length bytes → 1 ≤ length rest
   pub none : (x : Node) (ys : List ℕ) → length whole < 16 → fits k (widths k [] whole) x ≡ true → InRange x → rest ≢ encode x ++ ys
 

@@ -4,7 +4,7 @@
 --     node_rows            and its rows are lawful, and as wide as the node
 use Rattle.std.proofs.Common.{◌≡◌, ℕ, zero, suc, ◌+◌, ◌*◌, ◌<◌, ◌≤◌, min, Bool, true, false, cond, List, [], ◌∷◌, ◌++◌, length, get_or, take, ℤ, pos, negsuc, nat_abs, ◌≤ℤ◌, sym, refl, ap, ◌∙◌, subst, mul-le-mul_left, arith}
 use lib.Signed.{le_z}
-use Rattle.std.specs.List.{AllByRecursion as All}
+use Rattle.std.specs.List.{AllByRecursion}
 use Rattle.std.proofs.lemmas.List.{length-take}
 use Rattle.std.proofs.lemmas.Int.{ints}
 use Rattle.bag.specs.Order.{Row}
@@ -49,11 +49,11 @@ both_rows : (P Q R : Row → Type 0) → ((r : Row) → P r → Q r → R r) →
 both_rows P Q R f [] h k = tt
 both_rows P Q R f (e ∷ xs) h k = (f e.0 h.0 k.0, both_rows P Q R f xs h.1 k.1)
 
-every_all : (r : List ℤ) → Every ShownColumn shown_zero r → All ShownColumn r
+every_all : (r : List ℤ) → Every ShownColumn shown_zero r → AllByRecursion ShownColumn r
 every_all [] h = tt
 every_all (z ∷ r) h = (h.0, every_all r h.1)
 
-all_every : (r : List ℤ) → All ShownColumn r → Every ShownColumn shown_zero r
+all_every : (r : List ℤ) → AllByRecursion ShownColumn r → Every ShownColumn shown_zero r
 all_every [] h = tt
 all_every (z ∷ r) h = (h.0, all_every r h.1)
 

@@ -5,7 +5,7 @@
 --     low_node        its node is one of 0 to 15
 use Rattle.std.proofs.Common.{◌≡◌, ℕ, zero, suc, ◌<◌, ◌≤◌, List, [], ◌∷◌, map, length, get_or, take, pos, ◌+ℤ◌, Less, refl, ap, ◌∙◌, arith}
 use lib.IntN.{+ℤ_idl, +ℤ_idr}
-use Rattle.std.specs.List.{AllByRecursion as All}
+use Rattle.std.specs.List.{AllByRecursion}
 use Rattle.std.proofs.ByRecursion.{All-get_or}
 use Rattle.bag.specs.declared.lines.ChangeLine.{ChangeLine}
 use Rattle.bag.specs.Order.{Row, row_order}
@@ -60,5 +60,5 @@ module _ (f : ChangeLine → Line) (keeps : (p : ChangeLine) → (f p).0 ≡ key
   at_line (p ∷ ps) zero d c l = count_here p ps c.1 c.2
   at_line (p ∷ ps) (suc i) d c l = count_less p ps (key_of (get_or ps i d)) (behind p ps i d c.1 c.2 (omega arith)) ∙ at_line ps i d c.2 (omega arith)
 
-pub low_node : (ps : List ChangeLine) (i : ℕ) (d : ChangeLine) → All (λ l. l.node ≤ 15) ps → i < length ps → (get_or ps i d).node ≤ 15
+pub low_node : (ps : List ChangeLine) (i : ℕ) (d : ChangeLine) → AllByRecursion (λ l. l.node ≤ 15) ps → i < length ps → (get_or ps i d).node ≤ 15
 low_node ps i d e l = All-get_or (λ (x : ChangeLine). x.node ≤ 15) ps i d l e

@@ -7,7 +7,7 @@
 --     count_past              nor has a node above 15
 use Rattle.std.proofs.Common.{◌≡◌, ℕ, zero, suc, ◌+◌, ◌<◌, ◌≤◌, List, [], ◌∷◌, ◌++◌, length, get_or, pos, negsuc, ◌+ℤ◌, Ordering, Less, Greater, sym, refl, ap, ◌∙◌, ap₂, arith}
 use lib.IntN.{+ℤ_idl, +ℤ_idr}
-use Rattle.std.specs.List.{AllByRecursion as All}
+use Rattle.std.specs.List.{AllByRecursion}
 use Rattle.std.proofs.lemmas.List.{map-append, length-map, length-append}
 use Rattle.std.proofs.ByRecursion.{All-append}
 use Rattle.bag.specs.declared.lines.ChangeLine.{ChangeLine}
@@ -34,7 +34,7 @@ unfolding count
 count_at_negative [] n r = refl
 count_at_negative (l ∷ ls) n r = none_behind l ls (negsuc n ∷ r) Greater (key_after_negative l.node n l.row r) refl (count_at_negative ls n r)
 
-pub count_past : (ls : List ChangeLine) (t : ℕ) (q : Row) → All (λ l. l.node ≤ 15) ls → 16 ≤ t → change_at ls t q ≡ pos 0
+pub count_past : (ls : List ChangeLine) (t : ℕ) (q : Row) → AllByRecursion (λ l. l.node ≤ 15) ls → 16 ≤ t → change_at ls t q ≡ pos 0
 unfolding count
 count_past [] t q a m = refl
 count_past (l ∷ ls) t q a m = let b = a.0 in none_behind l ls (key t q) Less (key_less l.node t l.row q (omega arith)) refl (count_past ls t q a.1 m)
@@ -87,16 +87,16 @@ canonical_node k [] rest c b r = r
 canonical_node k (e ∷ []) rest c b r = (c.0, b e.0, r)
 canonical_node k (e ∷ (f ∷ d)) rest c b r = (c.0, key_same k e.0 f.0 ∙ c.1, canonical_node k (f ∷ d) rest c.2 b r)
 
-pub canonical_flattened : (k : ℕ) (ds : List Lines) → All Canonical ds → Canonical (changes (flattened k ds))
+pub canonical_flattened : (k : ℕ) (ds : List Lines) → AllByRecursion Canonical ds → Canonical (changes (flattened k ds))
 unfolding flattened
 canonical_flattened k [] c = tt
 canonical_flattened k (d ∷ ds) c = canonical_node k d (flattened (suc k) ds) c.0 (λ r. before_flattened k r (suc k) ds (omega arith)) (canonical_flattened (suc k) ds c.1)
 
-nodes_of_node : (k : ℕ) (d : Lines) → k ≤ 15 → All (λ (l : ChangeLine). l.node ≤ 15) (of_node k d)
+nodes_of_node : (k : ℕ) (d : Lines) → k ≤ 15 → AllByRecursion (λ (l : ChangeLine). l.node ≤ 15) (of_node k d)
 nodes_of_node k [] m = tt
 nodes_of_node k (e ∷ d) m = (m, nodes_of_node k d m)
 
-pub nodes_flattened : (k : ℕ) (ds : List Lines) → k + length ds ≤ 16 → All (λ (l : ChangeLine). l.node ≤ 15) (flattened k ds)
+pub nodes_flattened : (k : ℕ) (ds : List Lines) → k + length ds ≤ 16 → AllByRecursion (λ (l : ChangeLine). l.node ≤ 15) (flattened k ds)
 unfolding flattened
 nodes_flattened k [] m = tt
 nodes_flattened k (d ∷ ds) m = All-append (λ (l : ChangeLine). l.node ≤ 15) (of_node k d) (flattened (suc k) ds) (nodes_of_node k d (omega arith)) (nodes_flattened (suc k) ds (omega arith))

@@ -4,7 +4,7 @@
 --     sheet_leads_to_new_boards      the law
 use Rattle.std.proofs.Common.{◌≡◌, ℕ, zero, suc, ◌+◌, ◌-◌, ◌<◌, ◌≤◌, List, [], ◌∷◌, length, get_or, drop, pos, ◌+ℤ◌, ◌≤ℤ◌, sym, refl, ap, ◌∙◌, subst, ⊎_elim, arith}
 use lib.IntN.{+ℤ_idr}
-use Rattle.std.specs.List.{AllByRecursion as All}
+use Rattle.std.specs.List.{AllByRecursion}
 use Rattle.std.proofs.lemmas.List.{length-append, length-drop, get_or_append_left, get_or-append_right, get_or-drop, get_or_past}
 use Rattle.std.proofs.ByRecursion.{All-get_or}
 use Rattle.std.proofs.lemmas.Int.{ints}
@@ -27,7 +27,7 @@ length_differences [] news l = omega arith
 length_differences (old ∷ olds) [] l = refl
 length_differences (old ∷ olds) (new ∷ news) l = ap suc (length_differences olds news (omega arith))
 
-canonical_differences : (olds news : List Lines) → All Canonical (differences olds news)
+canonical_differences : (olds news : List Lines) → AllByRecursion Canonical (differences olds news)
 unfolding differences
 canonical_differences [] news = tt
 canonical_differences (old ∷ olds) [] = tt

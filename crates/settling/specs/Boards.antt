@@ -4,7 +4,7 @@
 --     NewBoards news              at most sixteen bags that shelves can hold
 --     SheetLeadsToNewBoards    the lines of the differences lead from the old bags to the new
 use Rattle.std.specs.Prelude.{ℕ, ◌≤◌, List, [], ◌∷◌, ◌++◌, length, drop, pos, ◌≤ℤ◌, slice_index_or}
-use Rattle.std.specs.List.{AllByRecursion as All}
+use Rattle.std.specs.List.{AllByRecursion}
 use Rattle.bag.specs.Order.{Row}
 use Rattle.bag.specs.Columns.{IsRow}
 use Rattle.bag.specs.Bag.{Lines, count, difference, IsBag, EachRow}
@@ -22,8 +22,8 @@ replaced h news = record { capacity = h.capacity; shelves = news ++ drop (length
 
 pub record NewBoards (news : List Lines) : Type 0 where
   pub few : length news ≤ 16
-  pub bags : All IsBag news
-  pub rows : All (EachRow IsRow) news
+  pub bags : AllByRecursion IsBag news
+  pub rows : AllByRecursion (EachRow IsRow) news
   pub counts : (k : ℕ) (q : Row) → count (slice_index_or news k []) q ≤ℤ pos 65535
 
 -- if there is room for the new bags, a stock can hold them, and settling the lines leads there

@@ -2,7 +2,7 @@
 --     LeadsInCounts h lines aim      each count of aim is that of h with the change that the lines have for it
 --     Leads h lines aim                the same, where aim is what a stock can hold
 use Rattle.std.specs.Prelude.{◌≡◌, ℕ, ◌≤◌, List, length, ◌+ℤ◌}
-use Rattle.std.specs.List.{AllByRecursion as All}
+use Rattle.std.specs.List.{AllByRecursion}
 use Rattle.bag.specs.declared.lines.ChangeLine.{ChangeLine}
 use Rattle.bag.specs.Order.{Row}
 use Rattle.bag.specs.Bag.{count, Canonical, IsBag}
@@ -13,7 +13,7 @@ use Rattle.settling.specs.Keys.{changes, change_at}
 pub record LeadsInCounts (h : Holding) (lines : List ChangeLine) (aim : Holding) : Type 0 where
   -- keys strictly ascend by node and row, and no change is 0
   pub in_order : Canonical (changes lines)
-  pub nodes : All (λ l. l.node ≤ 15) lines
+  pub nodes : AllByRecursion (λ l. l.node ≤ 15) lines
   pub sixteen : length aim.shelves ≡ 16
   pub bags : (s : ℕ) → IsBag (shelf_of aim s)
   pub capacity : aim.capacity ≡ h.capacity

@@ -7,7 +7,7 @@
 --     Takeable h lines         h has the copies that each line takes, and no two lines have one key
 --     Puttable h lines aim     the lines lead from h to the lawful holding `aim` by puts alone
 use Rattle.std.specs.Prelude.{◌≡◌, ℕ, ◌≤◌, false, List, map, pos, ◌+ℤ◌, neg_ℤ, ◌≤ℤ◌, unsigned_abs}
-use Rattle.std.specs.List.{AllByRecursion as All}
+use Rattle.std.specs.List.{AllByRecursion}
 use Rattle.bag.specs.declared.lines.ChangeLine.{ChangeLine}
 use Rattle.bag.specs.Order.{Row}
 use Rattle.bag.specs.Bag.{Line, Lines, count, Canonical}
@@ -44,14 +44,14 @@ pub record PutsLine (h : Holding) (l : ChangeLine) : Type 0 where
 
 pub record Takeable (h : Holding) (lines : List ChangeLine) : Type 0 where
   pub in_order : Canonical (changes lines)
-  pub nodes : All (λ l. l.node ≤ 15) lines
+  pub nodes : AllByRecursion (λ l. l.node ≤ 15) lines
   pub short : (s : ℕ) → s ≤ 15 → (q : Row) → count (shelf_of h s) q ≤ℤ pos 65535
   pub low : (s : ℕ) → s ≤ 15 → (q : Row) → pos 0 ≤ℤ count (shelf_of h s) q
   pub there : (s : ℕ) → s ≤ 15 → (q : Row) → pos 0 ≤ℤ (count (shelf_of h s) q +ℤ change_at lines s q)
 
 pub record Puttable (h : Holding) (lines : List ChangeLine) (aim : Holding) : Type 0 where
   pub in_order : Canonical (changes lines)
-  pub nodes : All (λ l. l.node ≤ 15) lines
+  pub nodes : AllByRecursion (λ l. l.node ≤ 15) lines
   pub lawful : LawfulHolding aim
   pub capacity : h.capacity ≡ aim.capacity
   pub reaches : (s : ℕ) → s ≤ 15 → (q : Row) → count (shelf_of aim s) q ≡ count (shelf_of h s) q +ℤ count (gains lines) (key s q)

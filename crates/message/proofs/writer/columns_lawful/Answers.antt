@@ -1,5 +1,5 @@
 use Rattle.std.proofs.Common.{◌≡◌, ◌+◌, ◌<◌, true, false, length, get_or, take, pos, sym, subst, arith, w32, SFits, rules}
-use Rattle.std.specs.List.{AllByRecursion as All}
+use Rattle.std.specs.List.{AllByRecursion}
 use Rattle.std.proofs.ByRecursion.{All-more}
 use Rattle.std.proofs.lemmas.Bool.{false≢true}
 use Rattle.std.proofs.lemmas.List.{take_all}
@@ -28,4 +28,4 @@ loop-k-preserved c =
 pub returns : goal.returns
 returns c =
     let e : take c.loop-k.k c.args.row.now ≡ c.args.row.now = take_all c.loop-k.k c.args.row.now (omega arith) in
-    record { is = sym (rw e at c.loop-k.invariant.0); range = λ _. subst (All (SFits w32)) e c.loop-k.invariant.1 }
+    record { is = sym (rw e at c.loop-k.invariant.0); range = λ _. subst (AllByRecursion (SFits w32)) e c.loop-k.invariant.1 }

@@ -1,5 +1,5 @@
 use Rattle.std.proofs.Common.{sym, ap, ◌∙◌, subst, arith}
-use Rattle.std.specs.List.{AllByRecursion as All}
+use Rattle.std.specs.List.{AllByRecursion}
 use Rattle.std.proofs.ByRecursion.{All-more}
 use Rattle.std.proofs.lemmas.List.{drop_all, take_all}
 use Rattle.message.specs.Lawful.{first_unlawful, InRange}
@@ -27,5 +27,5 @@ pub returns : goal.returns
 returns c =
     record {
       is = sym (ap (λ l. from c.loop-i.i (first_unlawful l)) (drop_all c.loop-i.i c.args.records.now (omega arith))) ∙ c.loop-i.invariant.0;
-      range = subst (All InRange) (take_all c.loop-i.i c.args.records.now (omega arith)) c.loop-i.invariant.1;
+      range = subst (AllByRecursion InRange) (take_all c.loop-i.i c.args.records.now (omega arith)) c.loop-i.invariant.1;
     }
