@@ -25,7 +25,7 @@ use Rattle.bag.proofs.Widths.{operators_keep_widths, total_keeps_its_width}
 use Rattle.plan.specs.declared.node.Node.{Node}
 use Rattle.plan.specs.declared.node.Node.TheVariants.{Base, Keep, Pick, Pair, Both, Less, Total}
 use Rattle.plan.specs.Lawful.{width}
-use Rattle.plan.specs.Sound.{Sound}
+use Rattle.plan.specs.Sound.{Sound, Handed}
 use Rattle.plan.specs.Afresh.{is_base, board, pairs_of, board_of}
 use Rattle.delta.specs.NodeChange.{counts_fit, LawfulRow}
 use Rattle.posting.specs.Working.{groups_fit}
@@ -125,27 +125,27 @@ module _ {V : Type 0} {ok : V → Type 0} (M : Measure V) (L : MeasureLaws ok M)
       (kind_total ShownColumn shown_zero M j is b (of_kind w b lower.rows)
       (shown_groups k8 (total_value M j is b) (group_value_ok M.group L.group_laws (listed is) (column_worth M j) (column_worth_adds_up M L.adds_up j) b) (pick is b) picked.1 fit many))
 
-  pub node_rows : (ws : List ℕ) (bs : List Lines) (k : ℕ) (x : Node) → Sound M.shows ws k x → ((i : ℕ) → i < k → LowerBoard (get_or ws i 0) (board bs i)) →
+  pub node_rows : (ws : List ℕ) (bs : List Lines) (k : ℕ) (x : Node) → Sound M.shows ws k x → Handed M.shows ws k x → ((i : ℕ) → i < k → LowerBoard (get_or ws i 0) (board bs i)) →
       (n : Lines) → (is_base x ≡ true → EachRow (LawfulRow (width M.shows ws x)) n) → groups_fit M x bs ≡ true → EachRow (LawfulRow (width M.shows ws x)) (board_of M ws n bs x)
   unfolding board_of both monus
-  node_rows ws bs k (Base w) f lower n base fit = base refl
-  node_rows ws bs k (Keep c a relation operand) f lower n base fit = rows_select (LawfulRow (get_or ws c 0)) _ (board bs c) (lower c f.lower).rows
-  node_rows ws bs k (Pick c m columns) f lower n base fit =
+  node_rows ws bs k (Base w) f handed lower n base fit = base refl
+  node_rows ws bs k (Keep c a relation operand) f handed lower n base fit = rows_select (LawfulRow (get_or ws c 0)) _ (board bs c) (lower c f.lower).rows
+  node_rows ws bs k (Pick c m columns) f handed lower n base fit =
       let is = take m columns in
-      let e = all_listed m columns f.few f.places in
+      let e = all_listed m columns f.few handed.places in
       subst (λ w. EachRow (LawfulRow w) (pick is (board bs c))) e
       (lawful_from (length is) (pick is (board bs c)) (operators_keep_widths.of_pick is (board bs c)) (kind_pick ShownColumn shown_zero is (board bs c) (of_kind (get_or ws c 0) (board bs c) (lower c f.lower).rows)))
-  node_rows ws bs k (Pair l r m pairs) f lower n base fit =
+  node_rows ws bs k (Pair l r m pairs) f handed lower n base fit =
       lawful_from (get_or ws l 0 + get_or ws r 0) _
       (operators_keep_widths.of_pair (get_or ws l 0) (get_or ws r 0) (pairs_of m pairs) (board bs l) (board bs r) (of_width (get_or ws r 0) (board bs r) (lower r f.right).rows))
       (kind_pair ShownColumn shown_zero (get_or ws l 0) (pairs_of m pairs) (board bs l) (board bs r) (of_kind (get_or ws l 0) (board bs l) (lower l f.left).rows) (of_kind (get_or ws r 0) (board bs r) (lower r f.right).rows))
-  node_rows ws bs k (Both l r) f lower n base fit =
+  node_rows ws bs k (Both l r) f handed lower n base fit =
       rows_collect (LawfulRow (get_or ws l 0)) _ (rows-++ (LawfulRow (get_or ws l 0)) (board bs l) (board bs r) (lower l f.left).rows (subst (λ w. EachRow (LawfulRow w) (board bs r)) (sym f.equal) (lower r f.right).rows))
-  node_rows ws bs k (Less l r) f lower n base fit = rows_map_counts (LawfulRow (get_or ws l 0)) _ (board bs l) (lower l f.left).rows
-  node_rows ws bs k (Total c j m columns) f lower n base fit =
+  node_rows ws bs k (Less l r) f handed lower n base fit = rows_map_counts (LawfulRow (get_or ws l 0)) _ (board bs l) (lower l f.left).rows
+  node_rows ws bs k (Total c j m columns) f handed lower n base fit =
       let is = take m columns in
       let few = f.few in
-      let e = all_listed m columns (omega arith) f.places in
+      let e = all_listed m columns (omega arith) handed.places in
       let narrow = f.narrow in
       subst (λ w. EachRow (LawfulRow (w + 1 + M.shows)) (total M j is (board bs c))) e
       (total_rows j (get_or ws c 0) is (board bs c) (omega arith) (lower c f.lower) fit)

@@ -15,11 +15,11 @@ use Rattle.plan.specs.declared.node.Node.{Node}
 use Rattle.plan.specs.declared.node.Node.TheVariants.{Base}
 use Rattle.plan.specs.declared.plan.Plan.{Plan}
 use Rattle.plan.specs.Lawful.{width, widths}
-use Rattle.plan.specs.Sound.{Sound}
+use Rattle.plan.specs.Sound.{Sound, Handed}
 use Rattle.plan.specs.Afresh.{board, afresh}
 use Rattle.plan.specs.Plans.{nodes_of, widths_of}
 use Rattle.plan.proofs.Growth.{widths_length}
-use Rattle.plan.proofs.Sounds.{sound_at, wide_at}
+use Rattle.plan.proofs.Sounds.{sound_at, handed_at, wide_at}
 use Rattle.sheet.specs.Sheets.{change_line, of_node, flattened, OnSheet}
 use Rattle.delta.specs.declared.fault.NodeFault.{NodeFault}
 use Rattle.delta.specs.declared.fault.NodeFault.TheVariants as node
@@ -55,6 +55,9 @@ module _ {V : Type 0} {ok : V → Type 0} (M : Measure V) (L : MeasureLaws ok M)
   sound : Sound M.shows (widths M.shows [] xs) k (get_or xs k first)
   sound = subst (λ n. Sound n (widths n [] xs) k (get_or xs k first)) shown (sound_at p.shown xs p.lawful k here first)
 
+  handed : Handed M.shows (widths M.shows [] xs) k (get_or xs k first)
+  handed = subst (λ n. Handed n (widths n [] xs) k (get_or xs k first)) shown (handed_at p.shown xs p.lawful k here first)
+
   wide : get_or (widths M.shows [] xs) k 0 ≡ width M.shows (widths M.shows [] xs) (get_or xs k first)
   wide =
       let l = widths_length p.shown [] xs in
@@ -65,19 +68,19 @@ module _ {V : Type 0} {ok : V → Type 0} (M : Measure V) (L : MeasureLaws ok M)
       some_same a b e = cc
 
   pub plan_refused : (f : NodeFault) → r ≡ Err f → judged_from M h.shelves (afresh M xs net') room k used (drop k xs) ≡ Err (fault_at k f)
-  plan_refused node.Over e = step_over M L xs h law moves net net' few ready' k here first sound wide room sheet used starts reached' sheet' r made e
-  plan_refused node.Wide e = step_wide M L xs h law moves net net' few ready' k here first sound wide room sheet used starts reached' sheet' r made e
+  plan_refused node.Over e = step_over M L xs h law moves net net' few ready' k here first sound handed wide room sheet used starts reached' sheet' r made e
+  plan_refused node.Wide e = step_wide M L xs h law moves net net' few ready' k here first sound handed wide room sheet used starts reached' sheet' r made e
 
   module _ (at : ℕ) (fine : r ≡ Ok at) where
     pub plan_paper : room < at → judged_from M h.shelves (afresh M xs net') room k used (drop k xs) ≡ Err (work.Paper k)
-    plan_paper o = step_paper M L xs h law moves net net' few ready' k here first sound wide room sheet used starts reached' sheet' r made at fine o
+    plan_paper o = step_paper M L xs h law moves net net' few ready' k here first sound handed wide room sheet used starts reached' sheet' r made at fine o
 
     pub plan_on : at ≤ room → judged_from M h.shelves (afresh M xs net') room k used (drop k xs) ≡ judged_from M h.shelves (afresh M xs net') room (k + 1) at (drop (k + 1) xs)
-    plan_on o = step_on M L xs h law moves net net' few ready' k here first sound wide room sheet used starts reached' sheet' r made at fine o
+    plan_on o = step_on M L xs h law moves net net' few ready' k here first sound handed wide room sheet used starts reached' sheet' r made at fine o
 
     pub plan_more : at ≤ room → (starts' : List ℕ) → ((i : ℕ) → i ≤ k → get_or starts' i 0 ≡ get_or starts i 0) → get_or starts' (k + 1) 0 ≡ at → Reached M xs (widths_of p) h net' (k + 1) room sheet' at starts'
     plan_more o starts' old last =
-        subst (λ w. Reached M xs w h net' (k + 1) room sheet' at starts') (sym same) (node_more M L xs h law moves net net' few ready' k here first sound wide room sheet used starts reached' sheet' r made at fine o starts' old last)
+        subst (λ w. Reached M xs w h net' (k + 1) room sheet' at starts') (sym same) (node_more M L xs h law moves net net' few ready' k here first sound handed wide room sheet used starts reached' sheet' r made at fine o starts' old last)
 
 module _ (ms : List Lines) (k : ℕ) (h : k < length ms) where
   pub net_here : drop (length (flattened 0 (take k ms))) (flattened 0 ms) ≡ of_node k (board ms k) ++ flattened (suc k) (drop (k + 1) ms)

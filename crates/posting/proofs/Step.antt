@@ -14,7 +14,7 @@ use Rattle.stock.specs.Holding.{Holding, LawfulHolding, shelf_of, lines_on, line
 use Rattle.plan.specs.declared.node.Node.{Node}
 use Rattle.plan.specs.declared.node.Node.TheVariants.{Base, Keep, Pick, Pair, Both, Less, Total}
 use Rattle.plan.specs.Lawful.{width, widths}
-use Rattle.plan.specs.Sound.{Sound}
+use Rattle.plan.specs.Sound.{Sound, Handed}
 use Rattle.plan.specs.Afresh.{board, board_of, afresh}
 use Rattle.sheet.specs.Sheets.{of_node, change_line, flattened, tally, OnSheet}
 use Rattle.sheet.proofs.Laid.{flattened_more}
@@ -44,7 +44,7 @@ board_short k (d ∷ ds) zero = let e = length-append (of_node k d) (flattened (
 board_short k (d ∷ ds) (suc i) = let e = length-append (of_node k d) (flattened (suc k) ds) in let f = board_short (suc k) ds i in omega arith
 
 module _ {V : Type 0} {ok : V → Type 0} (M : Measure V) (L : MeasureLaws ok M) (xs : List Node) (h : Holding) (law : LawfulHolding h) (moves net net' : ℕ → Lines) (few : length xs ≤ 16)
-    (ready : Ready M xs (widths M.shows [] xs) h moves net net') (k : ℕ) (here : k < length xs) (d : Node) (sound : Sound M.shows (widths M.shows [] xs) k (get_or xs k d))
+    (ready : Ready M xs (widths M.shows [] xs) h moves net net') (k : ℕ) (here : k < length xs) (d : Node) (sound : Sound M.shows (widths M.shows [] xs) k (get_or xs k d)) (handed : Handed M.shows (widths M.shows [] xs) k (get_or xs k d))
     (wide : get_or (widths M.shows [] xs) k 0 ≡ width M.shows (widths M.shows [] xs) (get_or xs k d))
     (room : ℕ) (sheet : List ChangeLine) (used : ℕ) (starts : List ℕ) (reached : Reached M xs (widths M.shows [] xs) h net' k room sheet used starts) where
   abbrev ws : List ℕ
@@ -86,13 +86,13 @@ module _ {V : Type 0} {ok : V → Type 0} (M : Measure V) (L : MeasureLaws ok M)
       let fit = groups_fit_agree M k M.shows ws h.shelves (afresh M xs net) x sound (λ i l. ready.boards i (omega arith)) ∙ ready.fit k d here in
       subst (EachRow (LawfulRow (get_or ws k 0))) (sym (old_board M xs h law moves net net' few ready k here M.shows ws d sound))
       (subst (λ w. EachRow (LawfulRow w) (board_of M ws (net k) h.shelves x)) (sym wide)
-      (node_rows M L ws h.shelves k x sound old_lower (net k) (λ b. subst (λ w. EachRow (LawfulRow w) (net k)) wide (ready.bases k d here b).old_rows) fit))
+      (node_rows M L ws h.shelves k x sound handed old_lower (net k) (λ b. subst (λ w. EachRow (LawfulRow w) (net k)) wide (ready.bases k d here b).old_rows) fit))
 
   new_rows : groups_fit M x news ≡ true → EachRow (LawfulRow (get_or ws k 0)) (board news k)
   new_rows fit =
       subst (EachRow (LawfulRow (get_or ws k 0))) (sym (new_board M xs h law moves net net' few ready k here M.shows ws d sound))
       (subst (λ w. EachRow (LawfulRow w) (board_of M ws (net' k) news x)) (sym wide)
-      (node_rows M L ws news k x sound new_lower (net' k) (λ b. subst (λ w. EachRow (LawfulRow w) (net' k)) wide (ready.bases k d here b).new_rows) fit))
+      (node_rows M L ws news k x sound handed new_lower (net' k) (λ b. subst (λ w. EachRow (LawfulRow w) (net' k)) wide (ready.bases k d here b).new_rows) fit))
 
   long : length news ≡ length xs
   long = afresh_long M xs net'
