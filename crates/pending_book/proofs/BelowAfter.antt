@@ -13,7 +13,7 @@ use Rattle.stock.specs.declared.stock.Stock.{Ghosts}
 use Rattle.pending_lines.specs.declared.pending_lines.PendingLine.{PendingLine}
 use Rattle.pending_lines.specs.PendingLines.{key_of, keyed, changes, with_change, has_place}
 use Rattle.pending_book.specs.declared.pending.PendingBook.{PendingBook}
-use Rattle.pending_book.specs.PendingBook.{Netted, Noted, BelowAfter}
+use Rattle.pending_book.specs.PendingBook.{Netted, NotedBelow, BelowAfter}
 
 pub first_line : (p : PendingLine) → is_zero p.change ≡ false → with_change p [] ≡ keyed p ∷ []
 unfolding add_copies
@@ -36,7 +36,7 @@ module _ {S : Type 0} (stock : Ghosts S) (b : PendingBook S) (p : PendingLine) w
   netted_from d same below pending =
       record { below = below ∙ ap (λ (x : PendingBook S). x.below) same; pending = pending ∙ ap (λ (x : PendingBook S). with_change p (changes x.pending)) same }
 
-  pub after_change : {c : PendingBook S} (q : PendingLine) → q ≡ p → is_zero p.change ≡ false → Noted stock b q c → BelowAfter stock b (Ok tt) p c
+  pub after_change : {c : PendingBook S} (q : PendingLine) → q ≡ p → is_zero p.change ≡ false → NotedBelow stock b q c → BelowAfter stock b (Ok tt) p c
   after_change {c} q e some noted =
       subst (λ x. is_zero x.change ≡ false → BelowAfter stock b (Ok tt) x c) e
       (λ (i : is_zero q.change ≡ false).

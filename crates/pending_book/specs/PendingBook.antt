@@ -12,9 +12,12 @@
 --                              is answered so: `refused` and `idle` calls leave the book whole as it was, `netted` if the line has a
 --                              place among 64, else `settled`
 -- and of how a book works:
---     Settled stock b c        c means what b does, the stock below it alone does too, and nothing is pending
---     Placed stock b p c       c means what b does, and has a place for the line p; it is b itself where that has one
---     Noted stock b p c        c means what b does with the change of p, which was netted in, or settled first
+--     Settled stock b c        c means what b does, and nothing is pending
+--     Placed stock b p c       c means what b does, and has a place for the line p
+--     Noted stock b p c        c means what b does with the change of p
+--     SettledBelow stock b c        the stock below c alone means what b does, too, and nothing is pending
+--     PlacedBelow stock b p c       c is b itself where that has a place for the line p, else settled
+--     NotedBelow stock b p c        the change of p was netted in, or settled first
 use Rattle.std.specs.Prelude.{◌≡◌, ℕ, ◌≤◌, true, false, List, [], ◌∷◌, ℤ, pos, ◌+ℤ◌, neg_ℤ, ◌≤ℤ◌, Ok, Err, Result}
 use Rattle.bag.specs.Order.{Row}
 use Rattle.bag.specs.Bag.{is_zero, count, EachRow}
@@ -79,18 +82,25 @@ module _ {S : Type 0} (stock : Ghosts S) where
   pub record Settled (b c : PendingBook S) : Type 0 where
     pub sound : SoundBook c
     pub same : meaning_of c ≡ meaning_of b
-    pub below : stock.meaning c.below ≡ meaning_of b
     pub empty : held c.pending ≡ []
 
   pub record Placed (b : PendingBook S) (p : PendingLine) (c : PendingBook S) : Type 0 where
     pub sound : SoundBook c
     pub same : meaning_of c ≡ meaning_of b
     pub place : has_place (changes c.pending) (key_of p) ≡ true
-    pub kept : has_place (changes b.pending) (key_of p) ≡ true → c ≡ b
-    pub settled : has_place (changes b.pending) (key_of p) ≡ false → Settled b c
 
   pub record Noted (b : PendingBook S) (p : PendingLine) (c : PendingBook S) : Type 0 where
     pub sound : SoundBook c
     pub after : meaning_of c ≡ with_change_of (meaning_of b) p
+
+  pub record SettledBelow (b c : PendingBook S) : Type 0 where
+    pub below : stock.meaning c.below ≡ meaning_of b
+    pub empty : held c.pending ≡ []
+
+  pub record PlacedBelow (b : PendingBook S) (p : PendingLine) (c : PendingBook S) : Type 0 where
+    pub kept : has_place (changes b.pending) (key_of p) ≡ true → c ≡ b
+    pub settled : has_place (changes b.pending) (key_of p) ≡ false → SettledBelow b c
+
+  pub record NotedBelow (b : PendingBook S) (p : PendingLine) (c : PendingBook S) : Type 0 where
     pub netted : has_place (changes b.pending) (key_of p) ≡ true → Netted b p c
     pub settled : has_place (changes b.pending) (key_of p) ≡ false → SettledFirst b p c

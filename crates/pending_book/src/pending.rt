@@ -1,10 +1,10 @@
-ghost use Rattle.std.specs.Prelude.{◌≡◌, ◌≤◌, []};
+ghost use Rattle.std.specs.Prelude.{◌≡◌, ◌≤◌, [], pos, neg_ℤ};
 ghost use Rattle.bag.specs.Bag.{count};
 ghost use Rattle.stock.specs.Refusal.{told};
 ghost use Rattle.stock.specs.Holding.{shelf_of, copies, lines_of, next_answer, put_answer, after_put, take_answer, after_take};
 ghost use Rattle.pending_lines.specs.PendingLines.{held, count_at};
 ghost use Rattle.pending_book.specs.PendingNext.{IsCandidate, earlier_of};
-ghost use Rattle.pending_book.specs.PendingBook.{meaning_of, with_change_of, gain_of, loss_of, Accepts, SoundBook, BelowAfter, Settled, Placed, Noted};
+ghost use Rattle.pending_book.specs.PendingBook.{meaning_of, with_change_of, gain_of, loss_of, Accepts, SoundBook, BelowAfter, Settled, Placed, Noted, SettledBelow, PlacedBelow, NotedBelow};
 
 use crate::settling::{put_all, take_all};
 use bag::row::{Row, compare_rows};
@@ -114,6 +114,7 @@ impl<S: Stock> PendingBook<S> {
     fn settle(&mut self)
         ensures memory { S.Stock.memory self.new.below ≡ S.Stock.memory self.old.below }
         ensures after { SoundBook S.Stock self.old → Settled S.Stock self.old self.new }
+        ensures below { SoundBook S.Stock self.old → SettledBelow S.Stock self.old self.new }
     {
         take_all(&mut self.below, &self.pending);
         put_all(&mut self.below, &self.pending);
@@ -124,6 +125,7 @@ impl<S: Stock> PendingBook<S> {
     fn make_place(&mut self, line: &PendingLine)
         ensures memory { S.Stock.memory self.new.below ≡ S.Stock.memory self.old.below }
         ensures after { SoundBook S.Stock self.old → Placed S.Stock self.old line.now self.new }
+        ensures below { SoundBook S.Stock self.old → PlacedBelow S.Stock self.old line.now self.new }
     {
         if self.pending.lacks_place(line) {
             self.settle();
@@ -134,6 +136,7 @@ impl<S: Stock> PendingBook<S> {
     fn note(&mut self, line: &PendingLine, lines: u16)
         ensures memory { S.Stock.memory self.new.below ≡ S.Stock.memory self.old.below }
         ensures after { SoundBook S.Stock self.old → Accepts (meaning_of S.Stock self.old) line.now → lines ≡ lines_of (with_change_of (meaning_of S.Stock self.old) line.now) → Noted S.Stock self.old line.now self.new }
+        ensures below { SoundBook S.Stock self.old → Accepts (meaning_of S.Stock self.old) line.now → lines ≡ lines_of (with_change_of (meaning_of S.Stock self.old) line.now) → NotedBelow S.Stock self.old line.now self.new }
     {
         self.make_place(line);
         let _ = self.pending.add(line);
@@ -196,7 +199,7 @@ fn earlier(below: Option<(Row, u16)>, pending: Option<(Row, i32)>) -> Option<Row
 
 // What putting n copies of a row changes.
 fn gain_line(shelf: u8, row: &Row, n: u16) -> PendingLine
-    ensures { result ≡ gain_of shelf row.now n }
+    ensures { result ≡ record { shelf = shelf; row = row.now; change = pos n } }
 {
     PendingLine {
         shelf,
@@ -207,7 +210,7 @@ fn gain_line(shelf: u8, row: &Row, n: u16) -> PendingLine
 
 // What taking n copies of a row changes.
 fn loss_line(shelf: u8, row: &Row, n: u16) -> PendingLine
-    ensures { result ≡ loss_of shelf row.now n }
+    ensures { result ≡ record { shelf = shelf; row = row.now; change = neg_ℤ (pos n) } }
 {
     PendingLine {
         shelf,

@@ -35,7 +35,7 @@ pub struct PendingLines {
 
 impl PendingLine {
     // What a place holds that no line uses.
-    pub(crate) fn blank() -> PendingLine
+    pub fn blank() -> PendingLine
         ensures { result ≡ blank_line }
     {
         PendingLine {
@@ -46,7 +46,7 @@ impl PendingLine {
     }
 
     // How the key of the line stands to a key.
-    pub(crate) fn compare_key(&self, shelf: u8, row: &Row) -> Ordering
+    pub fn compare_key(&self, shelf: u8, row: &Row) -> Ordering
         ensures { result ≡ row_order (key self.now.shelf self.now.row) (key shelf row.now) }
     {
         if self.shelf != shelf {
@@ -93,7 +93,7 @@ impl PendingLines {
     }
 
     // The lines, by ascending keys.
-    pub(crate) fn entries(&self) -> &[PendingLine]
+    pub fn entries(&self) -> &[PendingLine]
         ensures answer { result.now ≡ held self.now }
         ensures within { length result.now ≤ 64 }
     {
@@ -123,7 +123,7 @@ impl PendingLines {
     }
 
     // The change of a row on a shelf, 0 where no line has it.
-    pub(crate) fn change(&self, shelf: u8, row: &Row) -> i32
+    pub fn change(&self, shelf: u8, row: &Row) -> i32
         ensures answer { Ordered self.now → result ≡ count (changes self.now) (key shelf row.now) }
     {
         let slot = self.find(shelf, row);

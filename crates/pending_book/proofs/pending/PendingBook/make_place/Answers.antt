@@ -27,8 +27,11 @@ returns-then-lacks_place g c =
             sound = d.sound;
             same = d.same;
             place = subst (λ qs. has_place (map keyed qs) k ≡ true) (sym d.empty) (ap (λ z. not (is_zero z) || true) (count_none k));
+          };
+      below = λ (o : SoundBook stock b).
+          record {
             kept = λ h. absurd (unless_both (has_place (changes b.pending) k) h (lacking (has_place (changes b.pending) k) (c.if-lacks_place.ensures.answer o.ordered)));
-            settled = λ h. d;
+            settled = λ h. c.settle.ensures.below o;
           };
     }
 
@@ -41,5 +44,8 @@ returns-else-lacks_place g c =
       memory = refl;
       after = λ (o : SoundBook stock b).
           let place = unless (has_place (changes b.pending) k) (c.if-lacks_place.ensures.answer o.ordered) in
-          record { sound = o; same = refl; place = place; kept = λ h. refl; settled = λ h. absurd (unless_both (has_place (changes b.pending) k) place h) };
+          record { sound = o; same = refl; place = place };
+      below = λ (o : SoundBook stock b).
+          let place = unless (has_place (changes b.pending) k) (c.if-lacks_place.ensures.answer o.ordered) in
+          record { kept = λ h. refl; settled = λ h. absurd (unless_both (has_place (changes b.pending) k) place h) };
     }

@@ -40,7 +40,19 @@ returns g c =
               counted = n ∙ ap lines_of (sym whole);
             };
             after = whole;
-            netted = λ h. netted_from stock b p d (placed.kept h) refl done;
-            settled = λ h. record { below = (placed.settled h).below; pending = done ∙ ap (λ (qs : List PendingLine). with_change p (map keyed qs)) (placed.settled h).empty ∙ first_line p a.some };
+          };
+      below = λ (o : SoundBook stock b) (a : Accepts (meaning_of stock b) p) (n : c.args.lines ≡ lines_of (with_change_of (meaning_of stock b) p)).
+          let placed = c.make_place.ensures.after o in
+          let under = c.make_place.ensures.below o in
+          let s = placed.sound in
+          let h = stock.meaning d.below in
+          let ps = held d.pending in
+          let law = stock.lawful d.below s.below in
+          let accepted : Accepts (meaning_of stock d) p = subst (λ (m : Holding). Accepts m p) (sym placed.same) a in
+          let addable = addable_from h ps p law s.lawful accepted in
+          let done = c.add.ensures.after s.ordered addable ∙ ap (λ t. cond t (with_change p (changes d.pending)) (changes d.pending)) (c.add.ensures.answer s.ordered ∙ placed.place) in
+          record {
+            netted = λ h. netted_from stock b p d (under.kept h) refl done;
+            settled = λ h. record { below = (under.settled h).below; pending = done ∙ ap (λ (qs : List PendingLine). with_change p (map keyed qs)) (under.settled h).empty ∙ first_line p a.some };
           };
     }

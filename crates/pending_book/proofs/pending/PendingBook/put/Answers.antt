@@ -46,12 +46,19 @@ returns-then-old-gt0 g c =
     c.note.ensures.after o
     (subst (Accepts M) (sym line) (accepts_gain M s r n o.lawful low some c.read_columns.ensures (omega (arith, is)) (omega (arith, kept, room))))
     (o.counted ∙ sym kept ∙ ap (λ (p : PendingLine). lines_of (with_change_of M p)) (sym line)) in
+    let under = λ (o : SoundBook stock b).
+    let is = c.sum_at-old.ensures o in
+    let kept = lines_kept M s r n o.lawful low some (omega (arith, is)) in
+    let room = o.lawful.room in
+    c.note.ensures.below o
+    (subst (Accepts M) (sym line) (accepts_gain M s r n o.lawful low some c.read_columns.ensures (omega (arith, is)) (omega (arith, kept, room))))
+    (o.counted ∙ sym kept ∙ ap (λ (p : PendingLine). lines_of (with_change_of M p)) (sym line)) in
     record {
       memory = c.note.ensures.memory;
       sound = λ (o : SoundBook stock b). (noted o).sound;
       answer = λ (o : SoundBook stock b). let is = c.sum_at-old.ensures o in sym (put_ok M s r n low (omega (arith, is)) (room_present M s r n (omega (arith, is))));
       after = λ (o : SoundBook stock b). let is = c.sum_at-old.ensures o in (noted o).after ∙ ap (with_change_of M) line ∙ sym (accepted_put M s r n low (omega (arith, is)) (room_present M s r n (omega (arith, is))));
-      below = λ (o : SoundBook stock b). after_change stock b (gain_of s r n) c.gain_line.result line (some_gain n some) (noted o);
+      below = λ (o : SoundBook stock b). after_change stock b (gain_of s r n) c.gain_line.result line (some_gain n some) (under o);
     }
 
 pub returns-then-lines-capacity : goal.returns-then-lines-capacity
@@ -101,10 +108,17 @@ returns g c =
     c.note-2.ensures.after o
     (subst (Accepts M) (sym line) (accepts_gain M s r n o.lawful low some c.read_columns.ensures (omega (arith, is)) (omega (arith, more, room))))
     (ap (λ m. m + 1) o.counted ∙ sym more ∙ ap (λ (p : PendingLine). lines_of (with_change_of M p)) (sym line)) in
+    let under = λ (o : SoundBook stock b).
+    let is = c.sum_at-old.ensures o in
+    let more = lines_more M s r n o.lawful low some (omega (arith, is)) in
+    let room = free o in
+    c.note-2.ensures.below o
+    (subst (Accepts M) (sym line) (accepts_gain M s r n o.lawful low some c.read_columns.ensures (omega (arith, is)) (omega (arith, more, room))))
+    (ap (λ m. m + 1) o.counted ∙ sym more ∙ ap (λ (p : PendingLine). lines_of (with_change_of M p)) (sym line)) in
     record {
       memory = c.note-2.ensures.memory;
       sound = λ (o : SoundBook stock b). (noted o).sound;
       answer = λ (o : SoundBook stock b). let is = c.sum_at-old.ensures o in sym (put_ok M s r n low (omega (arith, is)) (room_free M s r n (free o)));
       after = λ (o : SoundBook stock b). let is = c.sum_at-old.ensures o in (noted o).after ∙ ap (with_change_of M) line ∙ sym (accepted_put M s r n low (omega (arith, is)) (room_free M s r n (free o)));
-      below = λ (o : SoundBook stock b). after_change stock b (gain_of s r n) c.gain_line-2.result line (some_gain n some) (noted o);
+      below = λ (o : SoundBook stock b). after_change stock b (gain_of s r n) c.gain_line-2.result line (some_gain n some) (under o);
     }

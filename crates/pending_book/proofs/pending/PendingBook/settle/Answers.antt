@@ -35,7 +35,16 @@ returns g c =
               counted = o.counted ∙ ap lines_of (sym same);
             };
             same = same;
-            below = there;
             empty = empty;
           };
+      below = λ (o : SoundBook stock b).
+          let h = stock.meaning b.below in
+          let ps = held b.pending in
+          let law = stock.lawful b.below o.below in
+          let sound-mid = c.take_all.ensures.sound o.below in
+          let sound-end = c.put_all.ensures.sound sound-mid in
+          let took = c.take_all.ensures.after o.below (takeable_from h ps law o.lawful o.ordered.canonical o.shelves) in
+          let gave = c.put_all.ensures.after (sum_of h ps) sound-mid (puttable_from h ps law o.lawful o.ordered.canonical o.shelves (stock.meaning mid) took) in
+          let there = arrived h ps law o.lawful o.ordered.canonical o.shelves (stock.meaning mid) (stock.meaning end) took gave (stock.lawful end sound-end) in
+          record { below = there; empty = empty };
     }

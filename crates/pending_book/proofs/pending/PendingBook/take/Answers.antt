@@ -43,12 +43,19 @@ returns-then-old-n-2 g c =
     c.note.ensures.after o
     (subst (Accepts M) (sym line) (accepts_loss M s r n o.lawful low some c.read_columns.ensures (omega (arith, is)) (omega (arith, kept, room))))
     (o.counted ∙ sym kept ∙ ap (λ (p : PendingLine). lines_of (with_change_of M p)) (sym line)) in
+    let under = λ (o : SoundBook stock b).
+    let is = c.sum_at-old.ensures o in
+    let kept = lines_left M s r n o.lawful low some (omega (arith, is)) in
+    let room = o.lawful.room in
+    c.note.ensures.below o
+    (subst (Accepts M) (sym line) (accepts_loss M s r n o.lawful low some c.read_columns.ensures (omega (arith, is)) (omega (arith, kept, room))))
+    (o.counted ∙ sym kept ∙ ap (λ (p : PendingLine). lines_of (with_change_of M p)) (sym line)) in
     record {
       memory = c.note.ensures.memory;
       sound = λ (o : SoundBook stock b). (noted o).sound;
       answer = λ (o : SoundBook stock b). let is = c.sum_at-old.ensures o in sym (take_ok M s r n low (omega (arith, is)));
       after = λ (o : SoundBook stock b). let is = c.sum_at-old.ensures o in (noted o).after ∙ ap (with_change_of M) line ∙ sym (accepted_take M s r n low (omega (arith, is)));
-      below = λ (o : SoundBook stock b). after_change stock b (loss_of s r n) c.loss_line.result line (some_loss n some) (noted o);
+      below = λ (o : SoundBook stock b). after_change stock b (loss_of s r n) c.loss_line.result line (some_loss n some) (under o);
     }
 
 pub returns : goal.returns
@@ -71,10 +78,19 @@ returns g c =
     c.note-2.ensures.after o
     (subst (Accepts M) (sym line) (accepts_loss M s r n o.lawful low some c.read_columns.ensures (omega (arith, is)) (omega (arith, less, room))))
     (let q : c.saturating_sub.result ≡ lines_of (with_copies M s r (neg_ℤ (pos n))) = omega (arith, less, counted, down) in q ∙ ap (λ (p : PendingLine). lines_of (with_change_of M p)) (sym line)) in
+    let under = λ (o : SoundBook stock b).
+    let is = c.sum_at-old.ensures o in
+    let less = lines_less M s r n o.lawful low some (omega (arith, is)) in
+    let room = o.lawful.room in
+    let counted = o.counted in
+    let down = c.saturating_sub.ensures in
+    c.note-2.ensures.below o
+    (subst (Accepts M) (sym line) (accepts_loss M s r n o.lawful low some c.read_columns.ensures (omega (arith, is)) (omega (arith, less, room))))
+    (let q : c.saturating_sub.result ≡ lines_of (with_copies M s r (neg_ℤ (pos n))) = omega (arith, less, counted, down) in q ∙ ap (λ (p : PendingLine). lines_of (with_change_of M p)) (sym line)) in
     record {
       memory = c.note-2.ensures.memory;
       sound = λ (o : SoundBook stock b). (noted o).sound;
       answer = λ (o : SoundBook stock b). let is = c.sum_at-old.ensures o in sym (take_ok M s r n low (omega (arith, is)));
       after = λ (o : SoundBook stock b). let is = c.sum_at-old.ensures o in (noted o).after ∙ ap (with_change_of M) line ∙ sym (accepted_take M s r n low (omega (arith, is)));
-      below = λ (o : SoundBook stock b). after_change stock b (loss_of s r n) c.loss_line-2.result line (some_loss n some) (noted o);
+      below = λ (o : SoundBook stock b). after_change stock b (loss_of s r n) c.loss_line-2.result line (some_loss n some) (under o);
     }
