@@ -1,27 +1,18 @@
--- Values worked out by hand, as equations that the measures' definitions meet. Assumes nothing.
---     fits_in_full M v zs          v fits, and shows the columns zs, K of them
---     does_not_fit M v        v does not fit
---     four_marks              four check marks side by side, two in two
---     WorkedValuesInFull           marks, sums at the bounds of what fits, measures side by side, nested and past eight columns
-use Rattle.std.specs.Prelude.{◌≡◌, ℕ, List, [], ◌∷◌, length, ℤ, pos, negsuc, Some, None}
+-- The values worked out by hand once more, and some more, with all columns that a measure shows. Assumes nothing.
+--     fits_in_full M v zs     v fits, and shows the columns zs, K of them
+--     WorkedValuesInFull      marks, sums at the bounds of what fits, measures side by side, nested and past eight columns
+use Rattle.std.specs.Prelude.{◌≡◌, ℕ, List, [], ◌∷◌, length, ℤ, pos, negsuc}
 use Rattle.bag.specs.Columns.{padded}
 use Rattle.bag.specs.Measure.{Measure}
-use Rattle.measure.specs.Shown.{shown, read_from}
+use Rattle.measure.specs.Shown.{read_from}
 use Rattle.measure.specs.HeadCount.{head_count}
 use Rattle.measure.specs.Sum.{sum}
 use Rattle.measure.specs.CheckMark.{check_mark}
 use Rattle.measure.specs.SideBySide.{side_by_side}
+use Rattle.measure.specs.WorkedValues.{fits_as, does_not_fit, four_marks}
 
-module _ {V : Type 0} (M : Measure V) where
-  abbrev pub fits_in_full : V → List ℤ → Type 0
-  fits_in_full v zs = (shown M v ≡ Some (padded zs)) × (length zs ≡ M.shows)
-
-  abbrev pub does_not_fit : V → Type 0
-  does_not_fit v = shown M v ≡ None
-
--- eight columns
-abbrev pub four_marks : Measure ((ℕ × ℕ) × (ℕ × ℕ))
-four_marks = side_by_side (side_by_side check_mark check_mark) (side_by_side check_mark check_mark)
+abbrev pub fits_in_full : {V : Type 0} → Measure V → V → List ℤ → Type 0
+fits_in_full M v zs = fits_as M v zs × (length zs ≡ M.shows)
 
 pub record WorkedValuesInFull : Type 0 where
   -- 70,000 is 1 times 65,536 and 4,464
