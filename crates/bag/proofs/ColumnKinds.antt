@@ -12,7 +12,6 @@ use Rattle.bag.specs.Columns.{column_of, columns_at, padded, listed, followed, a
 use Rattle.bag.specs.Bag.{Lines, EachRow}
 use Rattle.bag.specs.Measure.{Measure}
 use Rattle.bag.specs.Operators.{keep, pick, join, pair, both, monus, map_groups, aggregate, total_value, total}
-use Rattle.bag.proofs.Numbers.{zero_is}
 use Rattle.bag.proofs.EachRow.{rows_collect, rows-++, rows_select, rows_map_counts, rows_map_rows, rows_products, rows_project}
 
 pub length_padded : (zs : List ℤ) → length (padded zs) ≡ 8

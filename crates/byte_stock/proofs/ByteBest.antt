@@ -9,7 +9,7 @@ use Rattle.bag.specs.declared.lines.StockLine.{StockLine}
 use Rattle.bag.specs.RowOrder.{order_itself, order_transitive}
 use Rattle.stock.specs.Holding.{next_answer}
 use Rattle.byte_stock.specs.ByteLines.{line_at, stored_in}
-use Rattle.byte_stock.specs.ByteStored.{Stored, line_of, is_less, comes_after}
+use Rattle.byte_stock.specs.ByteStored.{line_of, is_less, comes_after}
 use Rattle.byte_stock.specs.ByteStocks.{held_in, SoundLines, capacity_in}
 use Rattle.byte_stock.specs.ByteSearch.{Best, better}
 use Rattle.byte_stock.proofs.ByteLawful.{next_stored, next_of_none}

@@ -3,7 +3,7 @@
 --     left-over .. left_new      the ways of a put
 --     taken_short .. taken_idle  the ways of a take
 --     count_found, count_none    the count that a search tells
-use Rattle.std.proofs.Common.{◌≡◌, ℕ, zero, suc, ◌+◌, ◌-◌, ◌*◌, ◌<◌, ◌≤◌, List, [], ◌∷◌, ◌++◌, length, set, Ok, Err, sym, refl, ap, ◌∙◌, subst, ap₂, arith}
+use Rattle.std.proofs.Common.{◌≡◌, ℕ, ◌+◌, ◌-◌, ◌*◌, ◌<◌, ◌≤◌, List, [], ◌∷◌, ◌++◌, length, set, Ok, Err, sym, refl, ap, ◌∙◌, arith}
 use Rattle.std.proofs.lemmas.List.{length-set, length_push}
 use Rattle.std.proofs.ByRecursion.{All-get_or}
 use Rattle.bag.specs.Order.{Row}
@@ -15,7 +15,7 @@ use Rattle.bag.specs.Columns.{IsRow}
 use Rattle.stock.specs.Holding.{copies}
 use Rattle.byte_stock.specs.ByteLines.{line_bytes, line_at, stored_in, laid, freed_bytes}
 use Rattle.stock.specs.Holding.{LawfulLine}
-use Rattle.byte_stock.specs.ByteStored.{Stored, line_of, new_line, freed}
+use Rattle.byte_stock.specs.ByteStored.{line_of, new_line, freed}
 use Rattle.byte_stock.specs.ByteStocks.{capacity_in, held_in, SoundLines, PutLeft, TakeLeft}
 use Rattle.byte_stock.specs.ByteSearch.{Nowhere, AtPlace}
 use Rattle.byte_stock.proofs.ByteLawful.{copies_found, copies_none}

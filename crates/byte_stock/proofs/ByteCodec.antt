@@ -2,9 +2,9 @@
 --     length_line, length_layout      35 bytes for each line
 --     line_back                       a lawful line is read from its bytes as it was
 --     stored_back                     and so are lines laid one behind the other
-use Rattle.std.proofs.Common.{◌≡◌, ℕ, zero, suc, ◌+◌, ◌-◌, ◌*◌, ◌/◌, ◌%◌, ◌^◌, ◌<◌, ◌≤◌, List, [], ◌∷◌, ◌++◌, map, length, get_or, take, drop, ℤ, pos, sym, refl, ap, ◌∙◌, subst, ap₂, append_assoc, add_assoc, mod-eq_of_lt, arith, length-append, w32, SFits, to_z, of_z}
-use Rattle.std.specs.List.{flat_map, AllByRecursion, range_with_len}
-use Rattle.std.proofs.lemmas.Int.{to_z-of_z, of_z-to_z, ints}
+use Rattle.std.proofs.Common.{◌≡◌, ℕ, zero, suc, ◌+◌, ◌*◌, ◌/◌, ◌%◌, ◌^◌, ◌<◌, ◌≤◌, List, [], ◌∷◌, ◌++◌, length, get_or, drop, ℤ, sym, refl, ap, ◌∙◌, subst, ap₂, append_assoc, add_assoc, mod-eq_of_lt, arith, length-append, w32, SFits, to_z, of_z}
+use Rattle.std.specs.List.{flat_map, AllByRecursion}
+use Rattle.std.proofs.lemmas.Int.{to_z-of_z, ints}
 use Rattle.std.proofs.lemmas.Nat.{shr-shr, shr_split, shr_below}
 use Rattle.std.proofs.lemmas.List.{get_or-drop, drop_at, drop-drop, ext_get_or}
 use Rattle.std.proofs.ByRecursion.{All-get_or}

@@ -3,10 +3,10 @@
 --     put_left, take_left            what a call leaves, from what it makes of the lines
 --     bytes_set, bytes_push, bytes_freed      what the writes leave
 --     at_place_is, nowhere_is        what a search finds, told of the lines
-use Rattle.std.proofs.Common.{◌≡◌, ℕ, zero, suc, ◌+◌, ◌-◌, ◌*◌, ◌/◌, ◌<◌, ◌≤◌, min, Bool, true, false, cond, eqb, List, [], ◌∷◌, ◌++◌, length, get_or, take, set, replicate, Result, Ordering, Less, Equal, Greater, sym, refl, ap, ◌∙◌, subst, ap₂, arith}
+use Rattle.std.proofs.Common.{◌≡◌, ℕ, ◌+◌, ◌-◌, ◌*◌, ◌<◌, true, eqb, List, [], ◌∷◌, ◌++◌, length, take, set, replicate, Result, Ordering, Less, Equal, Greater, sym, refl, ap, ◌∙◌, subst, ap₂, arith}
 use Rattle.std.specs.List.{AllByRecursion}
 use Rattle.std.proofs.lemmas.Bool.{and_parts, eqb-true, both_ways}
-use Rattle.std.proofs.lemmas.List.{length-set, length_push, length-replicate}
+use Rattle.std.proofs.lemmas.List.{length-set, length_push}
 use Rattle.std.proofs.ByRecursion.{All-get_or, All-set}
 use Rattle.std.proofs.lemmas.List.FromFn.{length-map-range_with_len, get_or-map-range_with_len}
 use Rattle.bag.specs.Order.{Row, row_order}
@@ -16,11 +16,11 @@ use Rattle.bag.specs.RowOrder.{order_equal}
 use Rattle.stock.specs.declared.fault.StockFault.{StockFault}
 use Rattle.bag.specs.Refusal.{Refusal}
 use Rattle.stock.specs.Refusal.{told}
-use Rattle.stock.specs.Holding.{Holding, LawfulHolding, empty_holding}
+use Rattle.stock.specs.Holding.{LawfulHolding}
 use Rattle.byte_stock.specs.ByteLines.{line_bytes, layout, padded, line_at, stored_in, laid, freed_bytes}
 use Rattle.stock.specs.Holding.{LawfulLine}
-use Rattle.byte_stock.specs.ByteStored.{Stored, line_of, Apart, shelves_of, bag_on, holding_of, is_equal, has_key, freed}
-use Rattle.byte_stock.specs.ByteStocks.{capacity_in, held_in, SoundLines, PutLeft, TakeLeft}
+use Rattle.byte_stock.specs.ByteStored.{Stored, line_of, Apart, holding_of, is_equal, has_key, freed}
+use Rattle.byte_stock.specs.ByteStocks.{capacity_in, SoundLines, PutLeft, TakeLeft}
 use Rattle.byte_stock.specs.ByteSearch.{Nowhere, AtPlace}
 use Rattle.byte_stock.proofs.ByteCodec.{stored_back}
 use Rattle.byte_stock.proofs.ByteWrites.{set_laid, append_laid, shrink_laid}

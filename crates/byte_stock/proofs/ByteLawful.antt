@@ -2,20 +2,20 @@
 --     lawful_stored                 the holding is lawful
 --     copies_found, copies_none     the count of a row that has a line, and of one that has none
 --     next_stored, next_of_none     the row after is that of the smallest greater line of the shelf
-use Rattle.std.proofs.Common.{◌≡◌, ℕ, zero, suc, ◌+◌, ◌<◌, ◌≤◌, Bool, true, false, cond, eqb, ◌⊎◌, List, [], ◌∷◌, ◌++◌, map, length, get_or, ℤ, pos, negsuc, ◌+ℤ◌, nat_abs, ◌≤ℤ◌, Some, None, Ordering, Less, Equal, Greater, sym, refl, ap, ◌∙◌, subst, ap₂, inl, inr, arith}
+use Rattle.std.proofs.Common.{◌≡◌, ℕ, ◌<◌, ◌≤◌, Bool, true, false, cond, eqb, [], ◌∷◌, length, get_or, ℤ, pos, negsuc, nat_abs, ◌≤ℤ◌, Some, None, Less, sym, refl, ap, ◌∙◌, subst, arith}
 use Rattle.std.specs.List.{flat_map, AllByRecursion}
 use Rattle.std.specs.Option.{option_map}
 use Rattle.std.proofs.lemmas.Int.{ints}
 use Rattle.std.proofs.ByRecursion.{All-get_or}
 use Rattle.bag.specs.Order.{Row, row_order}
-use Rattle.bag.specs.Bag.{Lines, is_zero, count, next, IsBag, EachRow}
+use Rattle.bag.specs.Bag.{IsBag, EachRow}
 use Rattle.bag.specs.Lines.{blank_stock_line}
 use Rattle.bag.specs.declared.lines.StockLine.{StockLine}
 use Rattle.bag.proofs.NextRow.{next_found, next_none}
 use Rattle.bag.proofs.EachRow.{rows_collect, rows-++}
 use Rattle.bag.proofs.TestsAtChanges.{bag_from_counts}
 use Rattle.bag.specs.Columns.{IsRow}
-use Rattle.stock.specs.Holding.{LawfulHolding, copies, lines_on, row_and_count, next_answer}
+use Rattle.stock.specs.Holding.{LawfulHolding, copies, row_and_count, next_answer}
 use Rattle.stock.specs.Holding.{LawfulLine}
 use Rattle.byte_stock.specs.ByteStored.{Stored, line_of, Apart, line_on, bag_on, shelves_of, holding_of}
 use Rattle.byte_stock.proofs.ByteTally.{tally, Absent, tally_low, tally_most, tally_found, tally_none, some_copies, any_shelf, canonical_bag, canonical_shelf, count_bag, shelf_count, shelves_sixteen, lines_are_length}

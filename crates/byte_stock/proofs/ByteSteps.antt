@@ -2,8 +2,7 @@
 --     place_found, place_none                     where a line is
 --     Kept, kept_set, kept_push, kept_freed       the lines after are lawful, apart and fit
 --     put_node .. put_new, take_node .. take_idle what each case answers and leaves
-use Rattle.std.proofs.Common.{◌≡◌, ℕ, zero, suc, ◌+◌, ◌-◌, ◌<◌, ◌≤◌, Bool, true, false, cond, ◌&&◌, eqb, ltb, ◌⊎◌, List, [], ◌∷◌, ◌++◌, length, get_or, take, set, ℤ, pos, negsuc, ◌+ℤ◌, neg_ℤ, nat_abs, Some, None, Ok, Err, Option, Result, Ordering, Less, Equal, Greater, sym, refl, ap, ◌∙◌, subst, ap₂, inl, inr, arith}
-use lib.IntN.{+ℤ_idr}
+use Rattle.std.proofs.Common.{◌≡◌, ℕ, zero, suc, ◌+◌, ◌-◌, ◌<◌, ◌≤◌, Bool, true, false, cond, eqb, ltb, ◌⊎◌, [], ◌∷◌, ◌++◌, length, take, set, ℤ, pos, ◌+ℤ◌, neg_ℤ, Some, None, Ok, Err, Option, Result, Ordering, Less, Equal, Greater, sym, refl, ap, ◌∙◌, ap₂, inl, inr, arith}
 use Rattle.std.specs.List.{AllByRecursion}
 use Rattle.std.specs.Option.{option_map}
 use Rattle.std.proofs.lemmas.Int.{ints}
@@ -11,15 +10,15 @@ use Rattle.std.proofs.lemmas.Bool.{cases_eq, cond-true, cond-false, lt-ltb, le-l
 use Rattle.std.proofs.lemmas.List.{get_or-set_same, get_or-set_other, length-set, length_push, get_or_push, get_or_append_left, get_or-take, length-take-le, take_more, take_all}
 use Rattle.std.proofs.ByRecursion.{All-get_or, All-set, All-push, All-take}
 use Rattle.bag.specs.Order.{Row, row_order}
-use Rattle.bag.specs.Bag.{if_equal, count, add_copies}
+use Rattle.bag.specs.Bag.{if_equal, count}
 use Rattle.bag.specs.Lines.{blank_stock_line}
 use Rattle.bag.specs.declared.lines.StockLine.{StockLine}
 use Rattle.bag.specs.RowOrder.{order_equal, order_itself}
 use Rattle.bag.specs.Refusal.{Refusal, refusal, left_by}
 use Rattle.bag.specs.Columns.{IsRow}
-use Rattle.stock.specs.Holding.{Holding, copies, lines_of, with_copies, lacks_room, put_answer, after_put, take_answer, after_take}
+use Rattle.stock.specs.Holding.{Holding, copies, with_copies, lacks_room, put_answer, after_put, take_answer, after_take}
 use Rattle.stock.specs.Holding.{LawfulLine}
-use Rattle.byte_stock.specs.ByteStored.{Stored, line_of, Apart, put_on, shelves_of, holding_of, is_equal, has_key, place_of, new_line, added_at, freed, removed_at, lines_after_put, lines_after_take}
+use Rattle.byte_stock.specs.ByteStored.{Stored, line_of, Apart, holding_of, is_equal, has_key, place_of, new_line, added_at, freed, removed_at, lines_after_put, lines_after_take}
 use Rattle.byte_stock.proofs.ByteTally.{tally, worth, line_worth, Absent, worth_adds, tally_push, tally_set, shelves_moved, lines_are_length}
 use Rattle.byte_stock.proofs.ByteLawful.{copies_found, copies_none}
 

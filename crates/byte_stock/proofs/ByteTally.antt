@@ -4,29 +4,25 @@
 --     shelf_count                        the bags of the shelves count the same
 --     shelves_moved                      lines that count as many copies more have the shelves with those copies added
 --     lines_are_length                   there are as many lines as are stored
-use Rattle.std.proofs.Common.{◌≡◌, ℕ, zero, suc, ◌+◌, ◌<◌, ◌≤◌, Bool, true, false, cond, eqb, ◌⊎◌, List, [], ◌∷◌, ◌++◌, map, length, get_or, set, ℤ, pos, negsuc, ◌+ℤ◌, nat_abs, ◌≤ℤ◌, Ordering, Less, Equal, Greater, sym, refl, ap, ◌∙◌, subst, ap₂, inl, inr, arith}
-use lib.IntN.{+ℤ_idl, +ℤ_idr}
-use Rattle.std.specs.List.{flat_map, AllByRecursion, range_with_len}
+use Rattle.std.proofs.Common.{◌≡◌, ℕ, zero, suc, ◌+◌, ◌<◌, ◌≤◌, Bool, true, false, cond, eqb, ◌⊎◌, List, [], ◌∷◌, ◌++◌, length, get_or, set, ℤ, pos, ◌+ℤ◌, ◌≤ℤ◌, Ordering, Less, Equal, Greater, sym, refl, ap, ◌∙◌, subst, inl, inr, arith}
+use lib.IntN.{+ℤ_idr}
+use Rattle.std.specs.List.{flat_map, AllByRecursion}
 use Rattle.std.proofs.lemmas.Int.{ints}
 use Rattle.std.proofs.lemmas.Bool.{cases_eq, cases_lt, eq-eqb, ne_eqb}
 use Rattle.std.proofs.lemmas.List.{ext_get_or, get_or_past, get_or-set_same, get_or-set_other, length-set}
 use Rattle.std.proofs.ByRecursion.{All-get_or}
 use Rattle.std.proofs.lemmas.List.FromFn.{length-map-range_with_len, get_or-map-range_with_len}
 use Rattle.bag.specs.Order.{Row, row_order}
-use Rattle.bag.specs.Bag.{Lines, is_zero, if_equal, copies_at, count, add_copies, collect, Canonical, Positive, IsBag, EachRow}
+use Rattle.bag.specs.Bag.{Lines, is_zero, if_equal, copies_at, count, add_copies, collect, Canonical}
 use Rattle.bag.specs.Lines.{blank_stock_line}
 use Rattle.bag.specs.declared.lines.StockLine.{StockLine}
 use Rattle.bag.specs.RowOrder.{order_equal, order_itself}
 use Rattle.bag.proofs.CanonicalForm.{canonical_add_copies, canonical_collect, equal_counts}
 use Rattle.bag.specs.Integers.{count_add_copies, count_collect, count-++}
-use Rattle.bag.proofs.Moves.{collect_equal_counts}
 use Rattle.bag.proofs.NextRow.{length_new}
-use Rattle.bag.proofs.EachRow.{rows_collect, rows-++}
-use Rattle.bag.proofs.TestsAtChanges.{bag_from_counts}
-use Rattle.bag.specs.Columns.{IsRow}
-use Rattle.stock.specs.Holding.{LawfulHolding, lines_on}
+use Rattle.stock.specs.Holding.{lines_on}
 use Rattle.stock.specs.Holding.{LawfulLine}
-use Rattle.byte_stock.specs.ByteStored.{Stored, line_of, Apart, put_on, line_on, bag_on, shelves_of, holding_of}
+use Rattle.byte_stock.specs.ByteStored.{Stored, line_of, Apart, put_on, line_on, bag_on, shelves_of}
 
 abbrev pub tally : ℕ → Row → Stored → ℤ
 tally t q ls = count (flat_map (line_on t) ls) q

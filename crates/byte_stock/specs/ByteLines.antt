@@ -8,8 +8,8 @@
 --     stored_in n b               the first n lines
 --     laid b at xs                b with the bytes xs from place `at` on, and all else as it was
 --     freed_bytes b i used        line i overwritten by the last of the used lines, and the place of that line blank
-use Rattle.std.specs.Prelude.{ℕ, ◌+◌, ◌-◌, ◌*◌, ◌/◌, ◌%◌, List, [], ◌∷◌, ◌++◌, map, length, take, drop, replicate, ℤ, slice_index}
-use Rattle.std.proofs.Common.{to_z, of_z}
+use Rattle.std.specs.Prelude.{ℕ, ◌+◌, ◌-◌, ◌*◌, List, [], ◌∷◌, ◌++◌, map, length, take, drop, replicate, ℤ, slice_index}
+use Rattle.std.proofs.Common.{to_z}
 use Rattle.std.specs.Int.{w32}
 use Rattle.std.specs.List.{flat_map, range_with_len}
 use Rattle.bag.specs.Bytes.{in_four, in_two}

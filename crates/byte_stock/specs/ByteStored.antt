@@ -10,7 +10,7 @@
 --     freed i ls                     line i is gone, and the last line stands in its place
 --     removed s r n ls               n copies less; a line without copies is freed
 --     lines_after_put, lines_after_take      what a put and a take leave, refused ones too
-use Rattle.std.specs.Prelude.{◌≡◌, ℕ, suc, ◌+◌, ◌-◌, ◌<◌, ◌≤◌, Bool, true, false, cond, ◌&&◌, List, [], ◌∷◌, ◌++◌, map, length, take, ℤ, pos, Some, None, Option, ◌==◌, slice_index_or, slice_set}
+use Rattle.std.specs.Prelude.{◌≡◌, ℕ, suc, ◌+◌, ◌-◌, ◌<◌, Bool, true, false, cond, ◌&&◌, List, [], ◌∷◌, ◌++◌, map, length, take, ℤ, pos, Some, None, Option, ◌==◌, slice_index_or, slice_set}
 use Rattle.std.specs.declared.cmp.Ordering.TheVariants.{Less, Equal, Greater}
 use Rattle.std.specs.declared.cmp.Ordering.{Ordering}
 use Rattle.std.specs.List.{range_with_len, flat_map}
@@ -20,8 +20,7 @@ use Rattle.bag.specs.Bag.{Lines, collect}
 use Rattle.bag.specs.Lines.{blank_stock_line}
 use Rattle.bag.specs.declared.lines.StockLine.{StockLine}
 use Rattle.bag.specs.Refusal.{left_by}
-use Rattle.bag.specs.Columns.{IsRow}
-use Rattle.stock.specs.Holding.{Holding, put_answer, take_answer, LawfulLine}
+use Rattle.stock.specs.Holding.{Holding, put_answer, take_answer}
 
 abbrev pub Stored : Type 0
 Stored = List StockLine

@@ -2,7 +2,7 @@
 --     sum_is        a count and a change are added without loss
 --     not_zero_is   what is not 0 fails the test of 0
 --     over_is       the test of code is the test of the definition
-use Rattle.std.proofs.Common.{◌≡◌, ℕ, zero, suc, ◌<◌, Bool, false, not, ℤ, pos, negsuc, ◌+ℤ◌, sym, refl, ap, ◌∙◌, arith, w32, w64, SFits, to_z, of_z, rules}
+use Rattle.std.proofs.Common.{◌≡◌, ℕ, zero, suc, ◌<◌, false, not, ℤ, pos, negsuc, ◌+ℤ◌, refl, ap, ◌∙◌, arith, w32, w64, SFits, to_z, of_z, rules}
 use lib.Signed.{lt_z, le_z}
 use Rattle.bag.specs.Bag.{is_zero}
 use Rattle.std.proofs.lemmas.Int.{ints, to_z-of_z}

@@ -2,21 +2,19 @@
 --     old_counts      the counts of a stock fit
 --     counts_told     the changed rows tell whether every new count fits
 --     finished        what the walk appended is the difference of the node's bags: then it meets the contract of its operator
-use Rattle.std.proofs.Common.{◌≡◌, ℕ, ◌+◌, ◌≤◌, Bool, true, false, cond, not, List, [], ◌∷◌, ◌++◌, length, ℤ, pos, ◌+ℤ◌, ◌≤ℤ◌, Ok, Err, Result, sym, refl, ap, ◌∙◌, subst, ap₂, arith}
-use lib.Signed.{le_z}
+use Rattle.std.proofs.Common.{◌≡◌, ℕ, ◌+◌, Bool, true, false, cond, not, List, ◌++◌, length, ◌+ℤ◌, Ok, Err, Result, sym, refl, ap, ◌∙◌, subst, ap₂, arith}
 use Rattle.std.proofs.lemmas.Int.{ints}
 use Rattle.bag.specs.declared.lines.ChangeLine.{ChangeLine}
-use Rattle.bag.specs.Order.{Row}
-use Rattle.bag.specs.Bag.{Lines, is_zero, count, IsBag, every_line, difference}
+use Rattle.bag.specs.Bag.{Lines, count, IsBag, every_line, difference}
 use Rattle.bag.proofs.Moves.{difference_moves, canonical_difference}
 use Rattle.bag.proofs.TestsAtChanges.{every_if_each, tests_follow_change}
-use Rattle.stock.specs.Holding.{Holding, LawfulHolding, shelf_of, copies}
+use Rattle.stock.specs.Holding.{Holding, LawfulHolding, shelf_of}
 use Rattle.stock.proofs.Accepted.{count_is_copies}
 use Rattle.sheet.specs.Sheets.{flattened, of_node, tally, OnSheet}
 use Rattle.sheet.proofs.Laid.{flattened_more}
 use Rattle.delta.specs.declared.fault.NodeFault.{NodeFault}
 use Rattle.delta.specs.declared.fault.NodeFault.TheVariants.{Over, Wide}
-use Rattle.delta.specs.NodeChange.{within_count, counts_fit, over_at, Setting, with_change, node_answer, NodeChange}
+use Rattle.delta.specs.NodeChange.{within_count, counts_fit, over_at, Setting, with_change, NodeChange}
 
 module _ (h : Holding) (law : LawfulHolding h) (k : ℕ) where
   pub old_counts : counts_fit (shelf_of h k) ≡ true

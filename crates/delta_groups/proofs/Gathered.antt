@@ -6,7 +6,7 @@
 --     ascends_gathered, count_gathered, length_gathered      all of them
 --     canonical_without, count_without, without_more         the lines that have copies
 --     count_small, sum_fits     numbers within ±65,535 add up to what 32 bits hold
-use Rattle.std.proofs.Common.{◌≡◌, ℕ, zero, suc, ◌+◌, ◌*◌, ◌<◌, ◌≤◌, Bool, true, false, cond, List, [], ◌∷◌, ◌++◌, length, ℤ, pos, negsuc, ◌+ℤ◌, nat_abs, Some, None, Option, Ordering, Less, Equal, Greater, sym, refl, ap, ◌∙◌, subst, ap₂, mul-zero, mul-suc, arith, w32, SFits, rules}
+use Rattle.std.proofs.Common.{◌≡◌, ℕ, suc, ◌+◌, ◌*◌, ◌<◌, ◌≤◌, Bool, true, false, cond, [], ◌∷◌, ◌++◌, length, ℤ, pos, ◌+ℤ◌, nat_abs, Some, None, Option, Ordering, Less, Equal, Greater, sym, refl, ap, ◌∙◌, subst, ap₂, mul-suc, arith, w32, SFits, rules}
 use lib.IntN.{+ℤ_idl, +ℤ_idr}
 use Rattle.std.proofs.lemmas.Int.{ints}
 use Rattle.std.specs.Ordering.{is_eq}
@@ -15,12 +15,12 @@ use Rattle.bag.specs.Order.{Row, row_order, change_line_order}
 use Rattle.bag.specs.Bag.{Line, Lines, is_zero, if_equal, copies_at, count, with_line, Before, Canonical}
 use Rattle.bag.specs.RowOrder.{order_itself, order_equal, greater_less, less_greater}
 use Rattle.bag.proofs.CanonicalForm.{before_transitive, canonical_with_line}
-use Rattle.bag.specs.Integers.{if_equal_adds, if_equal_zero, count-++}
+use Rattle.bag.specs.Integers.{if_equal_adds, if_equal_zero}
 use Rattle.bag.proofs.Numbers.{zero_is}
 use Rattle.table.specs.Order.{by_order}
 use Rattle.table.specs.Entries.{entry_of, with_entry}
 use Rattle.sheet.specs.Sheets.{change_line, of_node}
-use Rattle.delta_groups.specs.Nets.{Ascends, added, gathered_onto, gathered, without_zeros, SmallLines}
+use Rattle.delta_groups.specs.Nets.{Ascends, added, gathered_onto, without_zeros, SmallLines}
 
 -- ---- a row among lines whose rows ascend
 

@@ -5,7 +5,7 @@
 --     shown_is        what stands behind the copies
 --     row_is          the row of a group, if its value fits
 --     read_is, read_some      copies and value of a group, read from a row, and from the row that a look finds
-use Rattle.std.proofs.Common.{◌≡◌, ℕ, zero, suc, ◌+◌, ◌-◌, ◌≤◌, min, Bool, true, false, cond, List, [], ◌∷◌, ◌++◌, length, take, drop, replicate, ℤ, pos, negsuc, Some, None, Option, sym, refl, ap, ◌∙◌, subst, ap₂, append_assoc, arith, take-take}
+use Rattle.std.proofs.Common.{◌≡◌, ℕ, suc, ◌+◌, ◌-◌, ◌≤◌, Bool, true, false, cond, List, [], ◌∷◌, ◌++◌, length, take, drop, replicate, ℤ, pos, negsuc, Some, None, Option, sym, ap, ◌∙◌, ap₂, append_assoc, arith, take-take}
 use lib.Seq.{take-append-add}
 use Rattle.std.proofs.lemmas.List.{length-append, length-take, length-drop, length-replicate, take-append-le, take-replicate}
 use Rattle.std.specs.Ordering.{is_eq}

@@ -2,11 +2,10 @@
 --     images_none, images_more      none, and one line more
 --     image_fits                    the sum that a line leads to fits 32 bits
 --     images_room                   there is room for it
-use Rattle.std.proofs.Common.{◌≡◌, ℕ, ◌+◌, ◌*◌, ◌<◌, ◌≤◌, List, [], ◌∷◌, ◌++◌, length, get_or, take, ℤ, pos, ◌+ℤ◌, nat_abs, sym, refl, ap, ◌∙◌, subst, ap₂, arith, w32, SFits}
+use Rattle.std.proofs.Common.{◌≡◌, ℕ, ◌+◌, ◌*◌, ◌<◌, ◌≤◌, [], ◌∷◌, ◌++◌, length, get_or, take, ℤ, ◌+ℤ◌, nat_abs, sym, refl, ap, ◌∙◌, subst, ap₂, arith, w32, SFits}
 use lib.IntN.{+ℤ_idl}
 use Rattle.std.proofs.lemmas.List.{take_more, length-take}
 use Rattle.std.proofs.ByRecursion.{All-get_or, All-take}
-use Rattle.std.specs.List.{AllByRecursion}
 use Rattle.bag.specs.Order.{Row}
 use Rattle.bag.specs.Bag.{Line, Lines, count}
 use Rattle.bag.specs.Operators.{map_rows}

@@ -3,8 +3,7 @@
 --     net_added, never_full    adding a line, and that there is room for it
 --     nets_none                a table without entries
 --     net_more                 one line more, appended unless it is 0
-use Rattle.std.proofs.Common.{◌≡◌, ℕ, ◌+◌, ◌-◌, ◌^◌, ◌<◌, min, List, [], ◌∷◌, ◌++◌, length, get_or, take, ℤ, pos, negsuc, ◌+ℤ◌, Some, None, Option, sym, refl, ap, ◌∙◌, subst, ap₂, arith, w32, SFits}
-use Rattle.std.proofs.lemmas.Int.{ints}
+use Rattle.std.proofs.Common.{◌≡◌, ℕ, ◌+◌, ◌-◌, ◌^◌, ◌<◌, min, List, [], ◌++◌, length, get_or, take, ℤ, pos, negsuc, ◌+ℤ◌, Some, None, Option, sym, ap, ◌∙◌, ap₂, arith, w32, SFits}
 use Rattle.std.proofs.lemmas.List.{length-map, take_more}
 use Rattle.std.specs.List.{slice_get}
 use Rattle.std.specs.Int.{saturate_to_bits}
@@ -19,7 +18,7 @@ use Rattle.table.specs.Refusals.{refusal_of}
 use Rattle.table.specs.Tables.{items, capacity, Holds, Sound, add_answer}
 use Rattle.table.proofs.Lookups.{place_holds, no_place}
 use Rattle.table.proofs.Answered.{refused_since}
-use Rattle.sheet.specs.Sheets.{change_line, of_node}
+use Rattle.sheet.specs.Sheets.{change_line}
 use Rattle.delta_groups.specs.Nets.{added, without_zeros, Nets}
 use Rattle.delta_groups.proofs.Gathered.{change_in, found_is, with_is, ascends_added, without_more}
 

@@ -1,10 +1,10 @@
 -- The rows exchanged group by group are the change of a total. Assumes nothing.
 --     exchanges_are       what the walk over the gathered groups appends
 --     fits_are            what it tells of the groups' values
-use Rattle.std.proofs.Common.{◌≡◌, ℕ, ◌≤◌, Bool, true, false, cond, List, [], ◌∷◌, ◌++◌, length, take, ℤ, pos, ◌+ℤ◌, Less, sym, refl, ap, ◌∙◌, subst, ap₂, arith}
+use Rattle.std.proofs.Common.{◌≡◌, ℕ, ◌≤◌, Bool, true, false, cond, List, [], ◌∷◌, ◌++◌, length, take, ℤ, pos, ◌+ℤ◌, sym, refl, ap, ◌∙◌, ap₂, arith}
 use Rattle.bag.specs.Order.{Row, row_order}
 use Rattle.bag.specs.Columns.{padded, listed}
-use Rattle.bag.specs.Bag.{Line, Lines, is_zero, count, collect, Before, Canonical, EachRow, every_line, negated}
+use Rattle.bag.specs.Bag.{Lines, is_zero, count, collect, Before, Canonical, EachRow, every_line, negated}
 use Rattle.bag.specs.Measure.{Measure}
 use Rattle.bag.specs.Operators.{map_rows, column_worth, total_row}
 use Rattle.bag.specs.Propagation.{row_if_any, exchanged, touched_groups, exchange_groups, change_of_aggregate, read_group, group_of, change_of_own_total, touched_groups_fit}

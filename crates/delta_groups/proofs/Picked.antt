@@ -1,13 +1,12 @@
 -- The images of a change's lines added up are its pick. Assumes nothing.
 --     picked           without those that come to 0
 --     small_change     the numbers of a change between bags of small counts are small
-use Rattle.std.proofs.Common.{◌≡◌, ℕ, ◌≤◌, List, [], ◌∷◌, ℤ, pos, ◌+ℤ◌, nat_abs, ◌≤ℤ◌, Ordering, Less, Equal, Greater, sym, refl, ap, ◌∙◌, subst, arith}
+use Rattle.std.proofs.Common.{◌≡◌, ℕ, ◌≤◌, [], ◌∷◌, ℤ, pos, ◌+ℤ◌, nat_abs, ◌≤ℤ◌, Ordering, Less, Equal, Greater, sym, refl, ap, ◌∙◌, subst, arith}
 use lib.IntN.{+ℤ_idl}
 use Rattle.std.proofs.lemmas.Int.{ints}
 use Rattle.bag.specs.Order.{Row, row_order}
-use Rattle.bag.specs.Bag.{Line, Lines, if_equal, count, Before, Canonical}
+use Rattle.bag.specs.Bag.{Lines, if_equal, count, Before, Canonical}
 use Rattle.bag.specs.Operators.{map_rows, project, group_copies}
-use Rattle.bag.specs.Changes.{Moves, Changes}
 use Rattle.bag.specs.RowOrder.{order_equal}
 use Rattle.bag.proofs.CanonicalForm.{count_before, count_head, equal_counts}
 use Rattle.bag.proofs.Moves.{canonical_project, project_copies}
@@ -15,7 +14,7 @@ use Rattle.bag.proofs.OperatorBags.{count_low}
 use Rattle.bag.proofs.Bounds.{count_most}
 use Rattle.stock.specs.Holding.{Holding, LawfulHolding, shelf_of, copies}
 use Rattle.stock.proofs.Accepted.{count_is_copies}
-use Rattle.delta.specs.NodeChange.{counts_fit, LowerNode}
+use Rattle.delta.specs.NodeChange.{LowerNode}
 use Rattle.delta_groups.specs.Nets.{gathered, without_zeros, SmallLines}
 use Rattle.delta_groups.proofs.Gathered.{ascends_gathered, count_gathered, canonical_without, count_without}
 

@@ -1,15 +1,14 @@
 -- A total's walk over its groups at its end has worked out its change. Assumes nothing.
 --     ready_groups       what is known of every group before its rows are exchanged
 --     total_finished     then the walk meets the contract of a total
-use Rattle.std.proofs.Common.{◌≡◌, ℕ, zero, suc, ◌+◌, ◌*◌, ◌<◌, ◌≤◌, Bool, true, false, cond, not, List, [], ◌∷◌, ◌++◌, length, get_or, ℤ, pos, ◌+ℤ◌, nat_abs, ◌≤ℤ◌, Ok, Err, Result, sym, refl, ap, ◌∙◌, subst, ap₂, arith, w32, SFits, rules}
-use lib.Signed.{le_z}
+use Rattle.std.proofs.Common.{◌≡◌, ℕ, zero, suc, ◌*◌, ◌<◌, ◌≤◌, Bool, true, false, cond, not, List, [], ◌∷◌, length, get_or, ℤ, pos, ◌+ℤ◌, nat_abs, ◌≤ℤ◌, Ok, Err, Result, sym, refl, ap, ◌∙◌, subst, ap₂, arith, w32, SFits, rules}
 use Rattle.std.proofs.lemmas.Int.{ints}
 use Rattle.bag.specs.declared.lines.ChangeLine.{ChangeLine}
 use Rattle.bag.specs.Order.{Row}
 use Rattle.bag.specs.Columns.{listed}
 use Rattle.bag.specs.Bag.{Lines, is_zero, IsBag, every_line, difference}
 use Rattle.bag.specs.Measure.{Measure, MeasureLaws}
-use Rattle.bag.specs.Operators.{map_rows, pick, map_groups, group_copies, column_worth, total_copies, total_value, total_row, total, all_groups_fit}
+use Rattle.bag.specs.Operators.{map_rows, pick, map_groups, column_worth, total_copies, total_value, total_row, total, all_groups_fit}
 use Rattle.bag.specs.Propagation.{group_of, read_group, change_of_own_total, touched_groups_fit}
 use Rattle.bag.proofs.Bounds.{group_copies_low, group_copies_most}
 use Rattle.bag.proofs.GroupMoves.{group_copies_moves}
@@ -21,10 +20,10 @@ use Rattle.bag.proofs.ReadBack.{column_worth_adds_up, total_is_rows, read_group_
 use Rattle.bag.proofs.TestsAtChanges.{every_passes, fit_follows_change}
 use Rattle.stock.specs.Holding.{Holding, LawfulHolding, shelf_of, lines_on}
 use Rattle.plan.specs.Afresh.{board}
-use Rattle.sheet.specs.Sheets.{flattened, of_node, OnSheet}
+use Rattle.sheet.specs.Sheets.{flattened}
 use Rattle.delta.specs.declared.fault.NodeFault.{NodeFault}
 use Rattle.delta.specs.declared.fault.NodeFault.TheVariants.{Over, Wide}
-use Rattle.delta.specs.NodeChange.{within_count, counts_fit, over_at, LowerNode, Setting, NodeChange}
+use Rattle.delta.specs.NodeChange.{counts_fit, over_at, LowerNode, Setting, NodeChange}
 use Rattle.delta.proofs.Finished.{counts_told, finished}
 use Rattle.delta_groups.specs.Nets.{gathered}
 use Rattle.delta_groups.specs.Groups.{IsGroup, RoomForGroup}

@@ -4,13 +4,13 @@
 --     touched_rows         the gathered lines and the touched groups list the same rows
 --     rows_gathered        what holds of each image holds of each gathered row
 --     count_at             a line of ascending rows has the count of its row
-use Rattle.std.proofs.Common.{◌≡◌, ℕ, zero, suc, ◌<◌, Bool, true, false, cond, not, ◌||◌, List, [], ◌∷◌, ◌++◌, length, get_or, ℤ, pos, negsuc, ◌+ℤ◌, ◌≤ℤ◌, ◌<ℤ◌, Ordering, Less, Equal, Greater, sym, refl, ap, ◌∙◌, subst, ap₂, arith}
+use Rattle.std.proofs.Common.{◌≡◌, ℕ, zero, suc, ◌<◌, Bool, true, false, cond, not, ◌||◌, [], ◌∷◌, length, get_or, ℤ, pos, negsuc, ◌+ℤ◌, ◌≤ℤ◌, Ordering, Less, Equal, Greater, sym, refl, ap, ◌∙◌, subst, ap₂, arith}
 use lib.IntN.{+ℤ_idl, +ℤ_idr}
 use Rattle.std.proofs.lemmas.Int.{ints}
 use Rattle.std.specs.Ordering.{is_eq}
 use Rattle.bag.specs.Order.{Row, row_order}
-use Rattle.bag.specs.Bag.{Line, Lines, is_zero, is_positive, if_equal, copies_at, count, Before, Canonical, Positive, EachRow}
-use Rattle.bag.specs.Operators.{map_rows, project, support, map_counts, one_if_any, group_copies}
+use Rattle.bag.specs.Bag.{Line, Lines, is_zero, is_positive, if_equal, count, Before, Canonical, Positive, EachRow}
+use Rattle.bag.specs.Operators.{map_rows, support, map_counts, one_if_any, group_copies}
 use Rattle.bag.specs.Propagation.{touched_groups}
 use Rattle.bag.proofs.Numbers.{positive_above}
 use Rattle.bag.specs.RowOrder.{order_itself, order_equal}

@@ -5,7 +5,7 @@
 --     values_none        the values over no line
 --     value_more, values_more        the values over one line more
 --     deltas_are         copies and values as the walk over the groups takes them
-use Rattle.std.proofs.Common.{◌≡◌, ℕ, ◌+◌, ◌<◌, ◌≤◌, ◌≢◌, ◌⊎◌, List, [], ◌∷◌, ◌++◌, length, get_or, take, drop, set, ℤ, pos, Some, None, Ordering, Less, Equal, Greater, sym, refl, ap, ◌∙◌, subst, ap₂, inl, inr, arith, get_or-set_other, get_or-set_same}
+use Rattle.std.proofs.Common.{◌≡◌, ℕ, ◌+◌, ◌<◌, ◌≤◌, ◌≢◌, ◌⊎◌, List, [], ◌∷◌, ◌++◌, length, get_or, take, drop, set, ℤ, pos, Some, None, Ordering, Less, Equal, Greater, sym, refl, ap, ◌∙◌, ap₂, inl, inr, arith, get_or-set_other, get_or-set_same}
 use lib.IntN.{+ℤ_idl}
 use Rattle.std.proofs.lemmas.List.{take_more, get_or-map, length-map, get_or_default, get_or_append_left, length-append, length-take, length-drop}
 use Rattle.std.proofs.lemmas.Bool.{cases_lt}
@@ -13,7 +13,7 @@ use Rattle.bag.specs.declared.lines.ChangeLine.{ChangeLine}
 use Rattle.bag.specs.Order.{Row, row_order, change_line_order}
 use Rattle.bag.specs.Columns.{listed}
 use Rattle.bag.specs.Bag.{Line, Lines, count}
-use Rattle.bag.specs.Group.{Group, GroupLaws, sum_over}
+use Rattle.bag.specs.Group.{Group, sum_over}
 use Rattle.bag.specs.Measure.{Measure, MeasureLaws}
 use Rattle.bag.specs.Operators.{map_rows, group_copies, worth_if_equal, group_value, column_worth, total_value}
 use Rattle.bag.specs.Propagation.{group_of}
@@ -27,7 +27,7 @@ use Rattle.table.specs.Entries.{place_of, smaller}
 use Rattle.table.specs.Tables.{items}
 use Rattle.table.specs.Ordered.{lawful_from_keys}
 use Rattle.table.proofs.Located.{PresentAt, AbsentAt, present_from, absent_from}
-use Rattle.sheet.specs.Sheets.{change_line, of_node}
+use Rattle.sheet.specs.Sheets.{change_line}
 use Rattle.delta_groups.specs.Nets.{gathered, Nets}
 use Rattle.delta_groups.specs.Groups.{plus_if_equal, ValuesOf}
 use Rattle.delta_groups.proofs.Gathered.{ascends_gathered, count_gathered}

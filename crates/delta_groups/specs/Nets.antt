@@ -5,11 +5,11 @@
 --     without_zeros xs    the lines of xs whose number is not 0
 --     SmallLines ys      every number is within ±65,535
 --     Nets t xs           the table t is sound and its entries are the lines xs
-use Rattle.std.specs.Prelude.{◌≡◌, ◌≤◌, List, [], ◌∷◌, ℤ, ◌+ℤ◌, unsigned_abs}
+use Rattle.std.specs.Prelude.{◌≡◌, ◌≤◌, [], ◌∷◌, ℤ, ◌+ℤ◌, unsigned_abs}
 use Rattle.std.specs.List.{AllByRecursion}
 use Rattle.bag.specs.declared.lines.ChangeLine.{ChangeLine}
 use Rattle.bag.specs.Order.{Row, row_order, change_line_order}
-use Rattle.bag.specs.Bag.{Line, Lines, Before, with_line}
+use Rattle.bag.specs.Bag.{Lines, Before, with_line}
 use Rattle.bag.specs.Lines.{blank_change_line}
 use Rattle.table.specs.declared.table.Table.{Table}
 use Rattle.table.specs.Order.{by_order}

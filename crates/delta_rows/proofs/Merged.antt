@@ -5,7 +5,7 @@
 --     partly_all                    all is done: `out` is the canonical list of these counts
 --     Merging f dl dr h k room es sheet used over xs ys      the same where the walk of a node has appended `out`
 --     merging_none, merging_more, merging_all                and the same of its steps
-use Rattle.std.proofs.Common.{◌≡◌, ℕ, Bool, false, ◌⊎◌, List, [], ◌∷◌, ◌++◌, ℤ, pos, ◌+ℤ◌, Ordering, Less, Equal, Greater, sym, refl, ap, ◌∙◌, subst, ap₂, inl, inr}
+use Rattle.std.proofs.Common.{◌≡◌, ℕ, Bool, false, ◌⊎◌, List, [], ◌++◌, ℤ, pos, ◌+ℤ◌, Ordering, Less, Equal, Greater, sym, refl, ap, ◌∙◌, subst, ap₂, inl, inr}
 use lib.IntN.{+ℤ_idl, +ℤ_idr}
 use Rattle.std.proofs.lemmas.List.{append-nil}
 use Rattle.bag.specs.declared.lines.ChangeLine.{ChangeLine}

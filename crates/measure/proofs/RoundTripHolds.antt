@@ -3,7 +3,7 @@
 --     comes_back        what is read from the row of a value that fits
 --     same_again        the same, as an answer that may be none
 --     again_none, again_some      what the code answers, from what is shown
-use Rattle.std.proofs.Common.{◌≡◌, ℕ, zero, suc, ◌<◌, ◌≤◌, Bool, true, false, cond, List, [], ◌∷◌, length, ℤ, pos, negsuc, nat_abs, Some, None, Option, sym, refl, ap, ◌∙◌, arith}
+use Rattle.std.proofs.Common.{◌≡◌, ℕ, zero, suc, ◌<◌, Bool, true, false, cond, List, [], ◌∷◌, length, ℤ, pos, negsuc, nat_abs, Some, None, Option, sym, refl, ap, ◌∙◌, arith}
 use Rattle.std.proofs.lemmas.List.{get_or_past}
 use Rattle.bag.specs.Order.{Row}
 use Rattle.bag.specs.Columns.{column_of, padded}

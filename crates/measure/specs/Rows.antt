@@ -4,7 +4,7 @@
 --     Filled target i row            the first i columns of row are those of target
 --     filled_more, filled_step, filled_all      one column more, and all of them
 --     exactly_within, exactly_self, exactly_take, length_exactly      as many columns as asked for
-use Rattle.std.specs.Prelude.{◌≡◌, ℕ, zero, suc, ◌+◌, ◌-◌, ◌<◌, ◌≤◌, min, ◌⊎◌, List, [], ◌∷◌, ◌++◌, length, take, drop, replicate, ℤ, pos, FitsSigned, ◌≢◌, slice_set, refl}
+use Rattle.std.specs.Prelude.{◌≡◌, ℕ, zero, suc, ◌+◌, ◌<◌, ◌≤◌, min, ◌⊎◌, List, [], ◌∷◌, ◌++◌, length, take, drop, replicate, ℤ, pos, FitsSigned, ◌≢◌, slice_set, refl}
 use Rattle.std.proofs.Common.{sym, ap, ◌∙◌, inl, inr, arith, to_z, of_z}
 use Rattle.std.proofs.lemmas.List.{ext_get_or, get_or-take, get_or-drop, get_or-set_same, get_or-set_other, get_or_past, length-take, length-set, take-take, take_all, take-append-le}
 use Rattle.std.specs.Int.{w32}

@@ -1,7 +1,7 @@
 -- The values worked out by hand once more, and some more, with all columns that a measure shows. Assumes nothing.
 --     fits_in_full M v zs     v fits, and shows the columns zs, K of them
 --     WorkedValuesInFull      marks, sums at the bounds of what fits, measures side by side, nested and past eight columns
-use Rattle.std.specs.Prelude.{◌≡◌, ℕ, List, [], ◌∷◌, length, ℤ, pos, negsuc}
+use Rattle.std.specs.Prelude.{◌≡◌, List, [], ◌∷◌, length, ℤ, pos, negsuc}
 use Rattle.bag.specs.Columns.{padded}
 use Rattle.bag.specs.Measure.{Measure}
 use Rattle.measure.specs.Shown.{read_from}

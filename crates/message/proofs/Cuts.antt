@@ -1,5 +1,5 @@
 -- Fields that a pattern cuts off are those of the definitions.
-use Rattle.std.proofs.Common.{◌≡◌, ℕ, ◌+◌, ◌-◌, ◌*◌, ◌≤◌, List, [], ◌∷◌, length, get_or, drop, Some, refl, arith, w32, to_z}
+use Rattle.std.proofs.Common.{◌≡◌, ℕ, ◌+◌, ◌*◌, ◌≤◌, List, [], ◌∷◌, length, get_or, drop, Some, refl, arith, w32, to_z}
 use Rattle.bag.specs.Bytes.{first_four, first_two, first_one}
 
 pub first_four_is : (xs : List ℕ) → 4 ≤ length xs → first_four xs ≡ Some (to_z w32 (get_or xs 0 0 * 16777216 + get_or xs 1 0 * 65536 + get_or xs 2 0 * 256 + get_or xs 3 0), drop 4 xs)

@@ -8,7 +8,7 @@
 use Rattle.std.specs.Prelude.{◌≡◌, suc, ◌<◌, ◌≤◌, map, length, ◌+ℤ◌, FitsSigned}
 use Rattle.std.specs.Int.{w32}
 use Rattle.bag.specs.declared.lines.ChangeLine.{ChangeLine}
-use Rattle.bag.specs.Order.{Row, change_line_order}
+use Rattle.bag.specs.Order.{change_line_order}
 use Rattle.bag.specs.Lines.{blank_change_line}
 use Rattle.bag.specs.Bag.{Line, Lines, count, add_copies, Canonical}
 use Rattle.table.specs.declared.table.Table.{Table}

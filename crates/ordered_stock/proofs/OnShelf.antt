@@ -13,7 +13,7 @@ use Rattle.std.proofs.lemmas.Bool.{eqb-true, eq-eqb, ne_eqb}
 use Rattle.table.proofs.SortedTests.{sorted_from_test}
 use Rattle.bag.specs.declared.lines.StockLine.{StockLine}
 use Rattle.bag.specs.Order.{row_order, stock_line_order}
-use Rattle.bag.specs.Bag.{Line, Lines, is_zero, is_positive, if_equal, if_less, count, next, Before, Canonical, Positive, IsBag, EachRow}
+use Rattle.bag.specs.Bag.{Line, Lines, is_positive, if_equal, if_less, count, next, Before, Canonical, Positive, IsBag, EachRow}
 use Rattle.bag.specs.RowOrder.{order_itself, order_equal}
 use Rattle.table.specs.Order.{Lawful, by_order, same_key}
 use Rattle.table.specs.Entries.{Ascending, entry_of, first_after}

@@ -7,14 +7,13 @@
 --     held stock                what the stock means; its capacity is the run's length, at most 4,096
 --     SoundOrdered stock       what calls keep: the table is sound, its lines are lawful, there are no more than the capacity,
 --                               and the whole run is the sixteen bags laid out in order with blanks behind
-use Rattle.std.specs.Prelude.{◌≡◌, ℕ, zero, suc, ◌-◌, ◌≤◌, min, cond, List, [], ◌∷◌, ◌++◌, replicate, pos, ◌==◌, unsigned_abs}
+use Rattle.std.specs.Prelude.{◌≡◌, ℕ, zero, suc, ◌-◌, min, cond, List, [], ◌∷◌, ◌++◌, replicate, pos, ◌==◌, unsigned_abs}
 use Rattle.std.specs.List.{AllByRecursion}
 use Rattle.bag.specs.declared.lines.StockLine.{StockLine}
 use Rattle.bag.specs.Lines.{blank_stock_line}
 use Rattle.bag.specs.Order.{stock_line_order}
 use Rattle.bag.specs.Bag.{Line, Lines}
 use Rattle.table.specs.Tables.{items, capacity, Sound}
-use Rattle.bag.specs.Columns.{IsRow}
 use Rattle.stock.specs.Holding.{Holding, LawfulHolding, lines_of, LawfulLine}
 use Rattle.ordered_stock.specs.declared.ordered.OrderedStock.{OrderedStock}
 

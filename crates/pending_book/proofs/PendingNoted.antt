@@ -1,7 +1,7 @@
 -- A change that is added to the pending ones is added to the sum. Assumes nothing.
 --     addable_from       an accepted change can be held
 --     noted_sum          the sum with the change
-use Rattle.std.proofs.Common.{◌≡◌, ◌<◌, ◌≤◌, List, map, length, ℤ, pos, negsuc, ◌+ℤ◌, ◌≤ℤ◌, sym, ap, ◌∙◌, subst, arith, w32, SFits}
+use Rattle.std.proofs.Common.{◌≡◌, ◌<◌, List, map, length, ℤ, pos, negsuc, ◌+ℤ◌, ◌≤ℤ◌, sym, ap, ◌∙◌, subst, arith, w32, SFits}
 use Rattle.std.proofs.lemmas.List.{length-set}
 use Rattle.std.proofs.lemmas.Int.{ints}
 use Rattle.bag.specs.Order.{row_order}

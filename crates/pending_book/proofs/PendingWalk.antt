@@ -4,7 +4,7 @@
 --     walk_found       a candidate with copies is the next row
 --     walk_on          a candidate without copies is passed over
 --     walk_shorter     and then fewer pending lines are left
-use Rattle.std.proofs.Common.{◌≡◌, ℕ, suc, ◌≤◌, false, ◌⊎◌, [], ◌∷◌, length, ℤ, pos, ◌+ℤ◌, Some, None, Option, Ordering, Less, Equal, Greater, sym, refl, ap, ◌∙◌, subst, inl, inr, ⊎_elim, arith}
+use Rattle.std.proofs.Common.{◌≡◌, ℕ, suc, ◌≤◌, false, [], ◌∷◌, length, ℤ, pos, ◌+ℤ◌, Some, None, Option, Ordering, Less, Equal, Greater, sym, refl, ap, ◌∙◌, subst, inl, inr, ⊎_elim, arith}
 use Rattle.std.proofs.lemmas.Int.{ints}
 use Rattle.std.specs.Option.{option_map}
 use Rattle.bag.specs.Order.{Row, row_order}

@@ -18,7 +18,7 @@
 --     SettledBelow stock b c        the stock below c alone means what b does, too, and nothing is pending
 --     PlacedBelow stock b p c       c is b itself where that has a place for the line p, else settled
 --     NotedBelow stock b p c        the change of p was netted in, or settled first
-use Rattle.std.specs.Prelude.{◌≡◌, ℕ, ◌≤◌, true, false, List, [], ◌∷◌, ℤ, pos, ◌+ℤ◌, neg_ℤ, ◌≤ℤ◌, Ok, Err, Result}
+use Rattle.std.specs.Prelude.{◌≡◌, ℕ, ◌≤◌, true, false, List, [], ◌∷◌, pos, ◌+ℤ◌, neg_ℤ, ◌≤ℤ◌, Ok, Err, Result}
 use Rattle.bag.specs.Order.{Row}
 use Rattle.bag.specs.Bag.{is_zero, count, EachRow}
 use Rattle.stock.specs.declared.stock.Stock.{Ghosts}

@@ -6,7 +6,7 @@
 --     PutsLine h p            h has room for the copies that p puts
 --     Takeable h ps            h has the copies that each line takes, and no two lines have one key
 --     Puttable h ps aim        the lines lead from h to the lawful holding `aim` by puts alone
-use Rattle.std.specs.Prelude.{◌≡◌, ℕ, ◌≤◌, false, List, map, ℤ, pos, ◌+ℤ◌, neg_ℤ, ◌≤ℤ◌, unsigned_abs}
+use Rattle.std.specs.Prelude.{◌≡◌, ℕ, ◌≤◌, false, List, map, pos, ◌+ℤ◌, neg_ℤ, ◌≤ℤ◌, unsigned_abs}
 use Rattle.bag.specs.Order.{Row}
 use Rattle.bag.specs.Bag.{Line, Lines, count, Canonical, EachRow}
 use Rattle.bag.specs.Changes.{taken}

@@ -2,7 +2,7 @@
 --     no_line              what is read past the last line
 --     not_past, not_before     the first place with another node's line is behind the node's lines, and not further on
 --     part_is              the lines up to there are the node's
-use Rattle.std.proofs.Common.{◌≡◌, ℕ, zero, suc, ◌+◌, ◌-◌, ◌<◌, ◌≤◌, min, ◌⊎◌, List, [], ◌∷◌, ◌++◌, length, get_or, take, drop, pos, sym, refl, ap, ◌∙◌, subst, inl, inr, ⊎_elim, arith}
+use Rattle.std.proofs.Common.{◌≡◌, ℕ, suc, ◌+◌, ◌-◌, ◌<◌, ◌≤◌, min, ◌⊎◌, List, [], ◌∷◌, ◌++◌, length, get_or, take, drop, pos, sym, refl, ap, ◌∙◌, inl, inr, ⊎_elim, arith}
 use Rattle.std.proofs.lemmas.List.{length-append, length-map, length-drop, get_or_append_left, get_or-append-add, get_or-drop, get_or-map, take_at}
 use Rattle.std.proofs.lemmas.Bool.{cases_lt}
 use Rattle.bag.specs.declared.lines.ChangeLine.{ChangeLine}

@@ -2,22 +2,21 @@
 --     LowerBoard w b      a bag of lawful rows, w wide, whose counts fit, and which is no longer than two sheets
 --     node_bag             the board of a node is a bag
 --     node_rows            and its rows are lawful, and as wide as the node
-use Rattle.std.proofs.Common.{◌≡◌, ℕ, zero, suc, ◌+◌, ◌*◌, ◌<◌, ◌≤◌, min, Bool, true, false, cond, List, [], ◌∷◌, ◌++◌, length, get_or, take, ℤ, pos, negsuc, nat_abs, ◌≤ℤ◌, sym, refl, ap, ◌∙◌, subst, mul-le-mul_left, arith}
+use Rattle.std.proofs.Common.{◌≡◌, ℕ, ◌+◌, ◌*◌, ◌<◌, ◌≤◌, Bool, true, false, cond, List, [], ◌∷◌, length, get_or, take, ℤ, pos, negsuc, ◌≤ℤ◌, sym, refl, subst, mul-le-mul_left, arith}
 use lib.Signed.{le_z}
 use Rattle.std.specs.List.{AllByRecursion}
 use Rattle.std.proofs.lemmas.List.{length-take}
 use Rattle.std.proofs.lemmas.Int.{ints}
 use Rattle.bag.specs.Order.{Row}
 use Rattle.bag.specs.Columns.{OfWidth, listed}
-use Rattle.bag.specs.Bag.{Line, Lines, is_zero, is_positive, count, Canonical, Positive, IsBag, EachRow, every_line}
-use Rattle.bag.specs.Group.{AddsUp}
+use Rattle.bag.specs.Bag.{Lines, is_positive, Positive, IsBag, EachRow, every_line}
 use Rattle.bag.specs.Measure.{Measure, MeasureLaws, ShownColumn, ShownColumns}
-use Rattle.bag.specs.Operators.{keep, pick, both, monus, column_worth, total_value, total, all_groups_fit, group_copies}
+use Rattle.bag.specs.Operators.{pick, both, monus, column_worth, total_value, total, all_groups_fit, group_copies}
 use Rattle.bag.proofs.Bounds.{group_copies_low, group_copies_most}
 use Rattle.bag.proofs.ColumnKinds.{Every, RowOf, ShownOfKind, kind_pick, kind_pair, kind_total}
 use Rattle.bag.proofs.EachRow.{rows_select, rows_map_counts, rows_collect, rows-++}
 use Rattle.bag.proofs.GroupMoves.{group_value_ok}
-use Rattle.bag.proofs.Moves.{canonical_project, project_copies}
+use Rattle.bag.proofs.Moves.{project_copies}
 use Rattle.bag.proofs.OperatorLaws.{operators_give_bags, total_has_a_row_for_each_group}
 use Rattle.bag.proofs.ReadBack.{column_worth_adds_up}
 use Rattle.bag.proofs.TestsAtChanges.{every_if_each}

@@ -3,13 +3,12 @@
 --     changes_more     the change of one node more
 --     flattened-++, flattened_one, flattened_last      lines of some nodes and of others behind them
 --     run_at           the lines of a node stand where those of the nodes before end
-use Rattle.std.proofs.Common.{◌≡◌, ℕ, zero, suc, ◌+◌, ◌-◌, ◌<◌, ◌≤◌, min, List, [], ◌∷◌, ◌++◌, length, get_or, take, drop, sym, refl, ap, ◌∙◌, subst, ap₂, arith}
-use Rattle.std.proofs.lemmas.List.{append-nil, append_assoc, length-append, length-map, length-take, length-take-le, take_more, drop_more, take-append-drop, take_at, drop_at}
-use Rattle.bag.specs.declared.lines.ChangeLine.{ChangeLine}
+use Rattle.std.proofs.Common.{◌≡◌, ℕ, zero, suc, ◌+◌, ◌-◌, ◌<◌, ◌≤◌, min, List, [], ◌∷◌, ◌++◌, length, take, drop, sym, refl, ap, ◌∙◌, arith}
+use Rattle.std.proofs.lemmas.List.{append-nil, append_assoc, length-append, length-take, length-take-le, take_more, drop_more, take-append-drop, take_at, drop_at}
 use Rattle.bag.specs.Bag.{Lines, difference}
 use Rattle.stock.specs.Holding.{Holding, shelf_of}
 use Rattle.plan.specs.Afresh.{board}
-use Rattle.sheet.specs.Sheets.{change_line, of_node, flattened, RunOf}
+use Rattle.sheet.specs.Sheets.{of_node, flattened, RunOf}
 use Rattle.settling.specs.Boards.{differences}
 use Rattle.posting.specs.Reaching.{changes_to}
 

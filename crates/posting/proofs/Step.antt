@@ -1,18 +1,16 @@
 -- One node more is worked out. Assumes nothing.
 --     node_more      all that is owed of the node is known, and its lines stand on the sheet
 --     step_over, step_wide, step_paper, step_on      what the node's answer says of the judgement of all nodes from it on
-use Rattle.std.proofs.Common.{◌≡◌, ℕ, zero, suc, ◌+◌, ◌<◌, ◌≤◌, min, Bool, true, false, cond, leb, ◌⊎◌, List, [], ◌∷◌, ◌++◌, length, get_or, take, drop, Ok, Err, Result, sym, refl, ap, ◌∙◌, subst, ap₂, inl, inr, ⊎_elim, arith}
-use Rattle.std.proofs.lemmas.List.{length-append, length-map, take_all, take-take, take-append-le, get_or_append_left, get_or_at, get_or-take, drop_more}
-use Rattle.std.proofs.lemmas.Bool.{cases_lt, leb-true, leb-false, le-leb, lt-leb}
+use Rattle.std.proofs.Common.{◌≡◌, ℕ, zero, suc, ◌+◌, ◌<◌, ◌≤◌, Bool, true, false, cond, leb, List, [], ◌∷◌, ◌++◌, length, get_or, take, drop, Ok, Err, Result, sym, refl, ap, ◌∙◌, subst, ap₂, ⊎_elim, arith}
+use Rattle.std.proofs.lemmas.List.{length-append, length-map, take_all, take-append-le, get_or_append_left, get_or_at, drop_more}
+use Rattle.std.proofs.lemmas.Bool.{cases_lt, le-leb, lt-leb}
 use Rattle.bag.specs.declared.lines.ChangeLine.{ChangeLine}
 use Rattle.bag.specs.Bag.{Lines, IsBag, EachRow, difference}
 use Rattle.bag.specs.Measure.{Measure, MeasureLaws}
-use Rattle.bag.specs.Operators.{all_groups_fit}
 use Rattle.bag.proofs.LeastChange.{difference_changes}
 use Rattle.bag.proofs.LineCounts.{length_most}
-use Rattle.stock.specs.Holding.{Holding, LawfulHolding, shelf_of, lines_on, lines_of}
+use Rattle.stock.specs.Holding.{Holding, LawfulHolding, shelf_of, lines_on}
 use Rattle.plan.specs.declared.node.Node.{Node}
-use Rattle.plan.specs.declared.node.Node.TheVariants.{Base, Keep, Pick, Pair, Both, Less, Total}
 use Rattle.plan.specs.Lawful.{width, widths}
 use Rattle.plan.specs.Sound.{Sound, Handed}
 use Rattle.plan.specs.Afresh.{board, board_of, afresh}
@@ -20,7 +18,7 @@ use Rattle.sheet.specs.Sheets.{of_node, change_line, flattened, tally, OnSheet}
 use Rattle.sheet.proofs.Laid.{flattened_more}
 use Rattle.delta.specs.declared.fault.NodeFault.{NodeFault}
 use Rattle.delta.specs.declared.fault.NodeFault.TheVariants as node
-use Rattle.delta.specs.NodeChange.{counts_fit, LawfulRow, LowerNode, Filled, with_change, node_answer, NodeChange}
+use Rattle.delta.specs.NodeChange.{counts_fit, LawfulRow, LowerNode, with_change, NodeChange}
 use Rattle.delta.proofs.Finished.{old_counts}
 use Rattle.posting.specs.declared.fault.WorkFault.{WorkFault}
 use Rattle.posting.specs.declared.fault.WorkFault.TheVariants as work

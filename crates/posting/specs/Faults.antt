@@ -4,7 +4,7 @@ use Rattle.std.specs.Prelude.{ℕ}
 use Rattle.delta.specs.declared.fault.NodeFault.{NodeFault}
 use Rattle.delta.specs.declared.fault.NodeFault.TheVariants as node
 use Rattle.posting.specs.declared.fault.WorkFault.{WorkFault}
-use Rattle.posting.specs.declared.fault.WorkFault.TheVariants.{Over, Wide, Paper}
+use Rattle.posting.specs.declared.fault.WorkFault.TheVariants.{Over, Wide}
 
 abbrev pub fault_at : ℕ → NodeFault → WorkFault
 fault_at k node.Over = Over k

@@ -7,7 +7,7 @@
 --     Ready M xs ws h moves net net' what a posting starts from: the stock has the boards of the nodes xs over the nets `net`, every
 --                                    group of them fits, and `moves` leads from the nets `net` to `net'`
 --     Worked M xs h net' room sheet r      the answer, and the sheet that has the differences of all boards where nothing was refused
-use Rattle.std.specs.Prelude.{◌≡◌, ℕ, suc, ◌+◌, ◌<◌, ◌≤◌, Bool, true, cond, List, [], ◌∷◌, length, take, Ok, Err, Result, nat_le, slice_index, slice_index_or}
+use Rattle.std.specs.Prelude.{◌≡◌, ℕ, suc, ◌+◌, ◌<◌, Bool, true, cond, List, [], ◌∷◌, length, take, Ok, Err, Result, nat_le, slice_index, slice_index_or}
 use Rattle.bag.specs.declared.lines.ChangeLine.{ChangeLine}
 use Rattle.bag.specs.Bag.{Lines, EachRow, difference}
 use Rattle.bag.specs.Changes.{Changes}

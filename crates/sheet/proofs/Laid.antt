@@ -4,12 +4,12 @@
 --     run_long, read_run    how long a run is, and a line of it read on the sheet
 --     flattened_more        the change of one node more
 --     blank_is_laid         a blank sheet has no line
-use Rattle.std.proofs.Common.{◌≡◌, ℕ, zero, suc, ◌+◌, ◌-◌, ◌<◌, ◌≤◌, min, List, [], ◌∷◌, ◌++◌, map, length, get_or, take, drop, set, replicate, sym, refl, ap, ◌∙◌, subst, ap₂, arith}
-use Rattle.std.proofs.lemmas.List.{append_assoc, append-nil, length-append, length-map, length-set, length-replicate, length-take, length-drop, take_all, take-append-le, set-append_right, get_or_append_left, get_or-take, get_or-drop, get_or-map}
+use Rattle.std.proofs.Common.{◌≡◌, ℕ, suc, ◌+◌, ◌-◌, ◌<◌, ◌≤◌, min, List, [], ◌∷◌, ◌++◌, length, get_or, take, drop, set, replicate, sym, refl, ap, ◌∙◌, ap₂, arith}
+use Rattle.std.proofs.lemmas.List.{append_assoc, append-nil, length-append, length-map, length-set, length-take, length-drop, take_all, take-append-le, set-append_right, get_or_append_left, get_or-take, get_or-drop, get_or-map}
 use Rattle.bag.specs.declared.lines.ChangeLine.{ChangeLine}
 use Rattle.bag.specs.Bag.{Line, Lines}
 use Rattle.bag.specs.Lines.{blank_change_line}
-use Rattle.sheet.specs.Sheets.{change_line, of_node, flattened, laid, tally, OnSheet, RunOf}
+use Rattle.sheet.specs.Sheets.{change_line, of_node, flattened, laid, OnSheet, RunOf}
 
 one_longer : (es : List ChangeLine) (l : ChangeLine) → length (es ++ (l ∷ [])) ≡ suc (length es)
 one_longer es l = length-append es (l ∷ []) ∙ omega arith

@@ -11,10 +11,7 @@
 --     LawfulLine l                  a line on one of sixteen shelves, of a row, with a count from 1 to 65,535
 --     LawfulHolding h               sixteen bags of such rows, counts up to 65,535, no more lines than the capacity, and that at most 4,096
 use Rattle.std.specs.Prelude.{◌≡◌, ℕ, ◌+◌, ◌≤◌, Bool, cond, ◌&&◌, List, [], ◌∷◌, length, replicate, ℤ, pos, neg_ℤ, Ok, Err, Option, Result, ◌==◌, nat_lt, slice_index_or, slice_set, unsigned_abs}
-use Rattle.std.proofs.Common.{SFits}
-use Rattle.std.specs.Int.{w32}
 use Rattle.std.specs.Option.{option_map}
-use Rattle.std.specs.List.{AllByRecursion}
 use Rattle.bag.specs.declared.lines.StockLine.{StockLine}
 use Rattle.bag.specs.Order.{Row}
 use Rattle.bag.specs.Columns.{IsRow}

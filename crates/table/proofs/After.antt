@@ -1,7 +1,7 @@
 -- Where the first entry with a greater key stands. Assumes nothing.
 --     after_absent, after_present      where no entry has the key, and where one has it
 --     after_none, after_some           the same, told from the key's place
-use Rattle.std.proofs.Common.{◌≡◌, ℕ, zero, suc, ◌<◌, ◌≤◌, List, [], ◌∷◌, length, get_or, Some, None, Ordering, Less, Equal, Greater, refl, arith}
+use Rattle.std.proofs.Common.{◌≡◌, ℕ, zero, suc, List, [], ◌∷◌, Some, None, Ordering, Less, Equal, Greater, refl, arith}
 use Rattle.std.specs.List.{slice_get}
 use Rattle.table.specs.Order.{Lawful}
 use Rattle.table.specs.Entries.{Ascending, place_of, smaller, first_after}

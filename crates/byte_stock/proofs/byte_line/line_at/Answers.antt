@@ -1,4 +1,3 @@
-use Rattle.std.proofs.Common.{rules}
 use Rattle.byte_stock.specs.ByteLines.{line_at}
 use Rattle.byte_stock.proofs.byte_line.line_at.Goals as goal
 

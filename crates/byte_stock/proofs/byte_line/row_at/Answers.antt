@@ -1,4 +1,4 @@
-use Rattle.std.proofs.Common.{◌≡◌, refl, w32, SFits, rules}
+use Rattle.std.proofs.Common.{w32, SFits, rules}
 use Rattle.std.proofs.lemmas.Int.{to_z-of_z}
 use Rattle.byte_stock.specs.ByteLines.{row_at}
 use Rattle.byte_stock.proofs.byte_line.row_at.Goals as goal

@@ -1,4 +1,4 @@
-use Rattle.std.proofs.Common.{◌≡◌, ℕ, sym, ap, ◌∙◌, subst, arith}
+use Rattle.std.proofs.Common.{◌≡◌, sym, ap, ◌∙◌, subst, arith}
 use Rattle.bag.specs.declared.lines.StockLine.{StockLine}
 use Rattle.byte_stock.specs.ByteSearch.{AtPlace, Nowhere}
 use Rattle.byte_stock.proofs.ByteCalls.{count_found, count_none}

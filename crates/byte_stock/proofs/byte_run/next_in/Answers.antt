@@ -1,4 +1,4 @@
-use Rattle.std.proofs.Common.{◌≡◌, ℕ, Some, None, Option, sym, ap, ◌∙◌, subst, ap₂, arith}
+use Rattle.std.proofs.Common.{◌≡◌, ℕ, Some, Option, sym, ap, ◌∙◌, subst, arith}
 use Rattle.bag.specs.Order.{Row}
 use Rattle.byte_stock.specs.ByteLines.{line_at}
 use Rattle.bag.specs.declared.lines.StockLine.{StockLine}

@@ -1,5 +1,4 @@
-use Rattle.std.proofs.Common.{◌≡◌, ℕ, sym, subst, arith}
-use Rattle.byte_stock.specs.ByteSearch.{AtPlace, Nowhere}
+use Rattle.std.proofs.Common.{◌≡◌, sym, subst, arith}
 use Rattle.byte_stock.specs.ByteStocks.{SoundLines, PutLeft, answer_in, length_by}
 use Rattle.byte_stock.proofs.byte_run.put_in.Goals as goal
 

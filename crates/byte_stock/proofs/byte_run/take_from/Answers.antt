@@ -1,4 +1,4 @@
-use Rattle.std.proofs.Common.{◌≡◌, ℕ, ◌-◌, ◌*◌, ◌<◌, ◌≤◌, sym, ap, ◌∙◌, arith}
+use Rattle.std.proofs.Common.{◌≡◌, ◌-◌, ◌*◌, sym, ap, ◌∙◌, arith}
 use Rattle.bag.specs.declared.lines.StockLine.{StockLine}
 use Rattle.byte_stock.specs.ByteLines.{laid, line_at, line_bytes}
 use Rattle.byte_stock.specs.ByteStored.{new_line}

@@ -1,4 +1,4 @@
-use Rattle.std.proofs.Common.{◌≡◌, ℕ, sym, subst, arith}
+use Rattle.std.proofs.Common.{◌≡◌, sym, subst, arith}
 use Rattle.byte_stock.specs.ByteSearch.{Nowhere}
 use Rattle.byte_stock.specs.ByteStocks.{SoundLines, TakeLeft, answer_in, length_by}
 use Rattle.byte_stock.proofs.ByteCalls.{taken_none, taken_idle}

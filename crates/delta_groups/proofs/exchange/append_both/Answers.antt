@@ -1,4 +1,4 @@
-use Rattle.std.proofs.Common.{◌≡◌, List, [], ◌∷◌, ◌++◌, pos, negsuc, sym, subst, rules}
+use Rattle.std.proofs.Common.{List, [], ◌∷◌, ◌++◌, pos, negsuc, sym, subst, rules}
 use Rattle.bag.specs.declared.lines.ChangeLine.{ChangeLine}
 use Rattle.bag.specs.Bag.{Lines}
 use Rattle.delta.specs.Walks.{Walked}

@@ -1,4 +1,4 @@
-use Rattle.std.proofs.Common.{◌≡◌, ◌||◌, List, ℤ, ◌+ℤ◌, sym, ap, ◌∙◌, subst, ap₂, w32, SFits, rules}
+use Rattle.std.proofs.Common.{◌≡◌, ◌||◌, List, ℤ, ◌+ℤ◌, ap, ◌∙◌, subst, ap₂, w32, SFits, rules}
 use Rattle.std.proofs.lemmas.Int.{to_z-of_z}
 use Rattle.std.specs.Int.{saturate_to_bits}
 use Rattle.bag.specs.declared.lines.ChangeLine.{ChangeLine}

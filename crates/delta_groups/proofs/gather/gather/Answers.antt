@@ -1,4 +1,4 @@
-use Rattle.std.proofs.Common.{◌≡◌, ◌<◌, length, ◌+ℤ◌, ◌∙◌, ap₂, w32, SFits, to_z, of_z, rules}
+use Rattle.std.proofs.Common.{◌<◌, length, ◌+ℤ◌, ◌∙◌, ap₂, w32, SFits, to_z, of_z, rules}
 use Rattle.std.proofs.lemmas.Int.{to_z-of_z}
 use Rattle.std.specs.Int.{saturate_to_bits}
 use Rattle.bag.specs.Order.{Row}

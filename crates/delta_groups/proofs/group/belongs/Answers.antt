@@ -1,4 +1,4 @@
-use Rattle.std.proofs.Common.{◌≡◌, ◌≤◌, take, Ordering, sym, ap, ◌∙◌, rules}
+use Rattle.std.proofs.Common.{◌≤◌, ap, ◌∙◌}
 use Rattle.std.specs.Ordering.{is_eq}
 use Rattle.bag.specs.Order.{row_order}
 use Rattle.delta_groups.specs.Groups.{IsGroup}

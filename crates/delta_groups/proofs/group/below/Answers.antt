@@ -1,4 +1,4 @@
-use Rattle.std.proofs.Common.{◌≤◌, ◌∙◌, rules}
+use Rattle.std.proofs.Common.{◌≤◌, ◌∙◌}
 use Rattle.delta_groups.proofs.GroupRows.{below_is}
 use Rattle.delta_groups.proofs.group.below.Goals as goal
 

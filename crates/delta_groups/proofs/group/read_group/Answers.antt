@@ -1,4 +1,4 @@
-use Rattle.std.proofs.Common.{◌≡◌, ℤ, ap, ◌∙◌, arith}
+use Rattle.std.proofs.Common.{ap, ◌∙◌, arith}
 use Rattle.bag.specs.Bag.{next}
 use Rattle.stock.specs.Holding.{next_answer, shelf_of}
 use Rattle.bag.specs.Propagation.{below_group}

@@ -1,4 +1,4 @@
-use Rattle.std.proofs.Common.{◌≡◌, ℤ, ◌∙◌, arith, w32, SFits, rules}
+use Rattle.std.proofs.Common.{ℤ, ◌∙◌, arith, w32, SFits, rules}
 use Rattle.std.proofs.lemmas.Int.{to_z-of_z}
 use Rattle.delta_groups.specs.Groups.{IsGroup, RoomForGroup}
 use Rattle.delta_groups.proofs.GroupRows.{read_is}

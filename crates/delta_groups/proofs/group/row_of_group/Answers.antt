@@ -1,5 +1,5 @@
 use Rattle.std.proofs.lemmas.Int.{to_z-of_z}
-use Rattle.std.proofs.Common.{◌≡◌, sym, ◌∙◌, w32}
+use Rattle.std.proofs.Common.{sym, ◌∙◌, w32}
 use Rattle.delta_groups.proofs.GroupRows.{row_is}
 use Rattle.delta_groups.proofs.group.row_of_group.Goals as goal
 

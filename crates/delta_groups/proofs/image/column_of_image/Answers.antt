@@ -1,7 +1,7 @@
-use Rattle.std.proofs.Common.{◌≡◌, ℕ, ◌<◌, ◌≤◌, length, get_or, take, pos, sym, ap, ◌∙◌, arith, w32, SFits, rules}
+use Rattle.std.proofs.Common.{◌<◌, length, take, pos, sym, ap, ◌∙◌, arith, w32, SFits}
 use Rattle.std.proofs.lemmas.List.{length-take, get_or-take, get_or_past}
 use Rattle.std.proofs.lemmas.Int.{to_z-of_z}
-use Rattle.bag.specs.Columns.{column_of, columns_at, listed}
+use Rattle.bag.specs.Columns.{column_of, columns_at}
 use Rattle.bag.proofs.ColumnLaws.{columns_are_as_said, column_of_padded}
 use Rattle.bag.proofs.GroupKeys.{length_columns_at}
 use Rattle.delta_groups.proofs.image.column_of_image.Goals as goal

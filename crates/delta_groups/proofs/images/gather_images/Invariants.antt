@@ -1,4 +1,4 @@
-use Rattle.std.proofs.Common.{◌≡◌, ℕ, ◌≤◌, List, [], length, take}
+use Rattle.std.proofs.Common.{ℕ, ◌≤◌, List, [], length, take}
 use Rattle.bag.specs.declared.lines.ChangeLine.{ChangeLine}
 use Rattle.bag.specs.Columns.{listed}
 use Rattle.bag.specs.Bag.{Lines}

@@ -1,8 +1,8 @@
-use Rattle.std.proofs.Common.{◌≡◌, ℕ, ◌+◌, ◌<◌, ◌≤◌, List, [], ◌∷◌, ◌++◌, length, get_or, take, ℤ, pos, sym, ap, ◌∙◌, subst, ap₂, arith, w32, SFits, to_z, of_z, rules}
-use Rattle.std.proofs.lemmas.List.{take_all, take_more, get_or-map, length-map}
+use Rattle.std.proofs.Common.{◌≡◌, ◌<◌, List, [], length, get_or, take, pos, ap, ◌∙◌, subst, arith, w32, SFits, to_z, of_z, rules}
+use Rattle.std.proofs.lemmas.List.{take_all, get_or-map, length-map}
 use Rattle.std.proofs.lemmas.Int.{to_z-of_z}
 use Rattle.bag.specs.declared.lines.ChangeLine.{ChangeLine}
-use Rattle.bag.specs.Bag.{Line, Lines, with_line}
+use Rattle.bag.specs.Bag.{Line, Lines}
 use Rattle.sheet.specs.Sheets.{change_line, of_node, OnSheet}
 use Rattle.delta.specs.Walks.{Walked}
 use Rattle.delta.proofs.Steps.{walked_none}

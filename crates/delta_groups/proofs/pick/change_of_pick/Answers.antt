@@ -1,5 +1,5 @@
-use Rattle.std.proofs.Common.{◌≡◌, ℕ, ◌-◌, ◌<◌, ◌≤◌, true, List, [], length, take, sym, ap, ◌∙◌, subst, arith, rules}
-use Rattle.std.proofs.lemmas.List.{length-append, length-drop, length-take}
+use Rattle.std.proofs.Common.{ℕ, ◌-◌, ◌<◌, ◌≤◌, true, List, length, take, ◌∙◌, arith, rules}
+use Rattle.std.proofs.lemmas.List.{length-take}
 use Rattle.bag.specs.Columns.{listed}
 use Rattle.bag.specs.Bag.{Lines}
 use Rattle.bag.specs.Operators.{pick, map_rows}
@@ -7,7 +7,7 @@ use Rattle.bag.proofs.OperatorLaws.{pick_follows_change, operators_give_bags}
 use Rattle.stock.specs.Holding.{shelf_of}
 use Rattle.plan.specs.Afresh.{board}
 use Rattle.table.specs.Tables.{capacity}
-use Rattle.sheet.specs.Sheets.{flattened, of_node, RunOf}
+use Rattle.sheet.specs.Sheets.{flattened, RunOf}
 use Rattle.sheet.proofs.Laid.{run_long}
 use Rattle.delta.specs.NodeChange.{Setting, Filled}
 use Rattle.delta.proofs.Finished.{finished}

@@ -1,4 +1,4 @@
-use Rattle.std.proofs.Common.{◌≡◌, ℕ, ◌-◌, ◌<◌, ◌≤◌, Bool, true, false, List, length, take, sym, refl, ◌∙◌, subst, arith, rules}
+use Rattle.std.proofs.Common.{◌≡◌, ℕ, ◌-◌, ◌<◌, ◌≤◌, Bool, true, false, List, length, take, sym, refl, subst, arith, rules}
 use Rattle.std.proofs.lemmas.List.{length-take}
 use Rattle.bag.specs.Order.{Row}
 use Rattle.bag.specs.Columns.{listed}

@@ -1,4 +1,4 @@
-use Rattle.std.proofs.Common.{◌≡◌, ℕ, ◌<◌, ◌≤◌, List, [], ◌++◌, length, get_or, take, drop, sym, ap, ◌∙◌, subst, arith, rules}
+use Rattle.std.proofs.Common.{◌≡◌, ℕ, ◌<◌, ◌≤◌, List, [], ◌++◌, length, get_or, take, drop, ◌∙◌, subst, arith, rules}
 use Rattle.std.proofs.lemmas.List.{length-take}
 use Rattle.bag.specs.declared.lines.ChangeLine.{ChangeLine}
 use Rattle.bag.specs.Order.{Row}
@@ -11,7 +11,7 @@ use Rattle.table.specs.Tables.{capacity}
 use Rattle.sheet.specs.Sheets.{OnSheet, RunOf}
 use Rattle.sheet.proofs.Laid.{run_long}
 use Rattle.delta_groups.specs.Nets.{gathered, SmallLines}
-use Rattle.delta_groups.specs.Groups.{IsGroup, RoomForGroup, ValuesOf}
+use Rattle.delta_groups.specs.Groups.{IsGroup, RoomForGroup}
 use Rattle.delta_groups.specs.Totals.{Ready}
 use Rattle.delta_groups.proofs.Gathered.{length_gathered}
 use Rattle.delta_groups.proofs.NetTables.{nets_none}

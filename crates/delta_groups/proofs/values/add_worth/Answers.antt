@@ -1,4 +1,4 @@
-use Rattle.std.proofs.Common.{◌≡◌, ℕ, ◌<◌, ◌≤◌, length, ◌∙◌, rules}
+use Rattle.std.proofs.Common.{ℕ, ◌<◌, ◌≤◌, length, rules}
 use Rattle.bag.specs.Bag.{Line, Lines}
 use Rattle.delta_groups.specs.Nets.{Nets}
 use Rattle.delta_groups.proofs.Worths.{worth_put, worth_none, no_place_past}

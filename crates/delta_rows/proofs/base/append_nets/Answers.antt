@@ -1,8 +1,8 @@
-use Rattle.std.proofs.Common.{◌≡◌, ℕ, ◌+◌, ◌<◌, List, [], ◌∷◌, ◌++◌, length, get_or, take, pos, sym, ap, ◌∙◌, subst, ap₂, arith, w32, SFits, rules}
+use Rattle.std.proofs.Common.{◌≡◌, ◌<◌, List, [], length, get_or, take, pos, ap, ◌∙◌, subst, arith, w32, SFits, rules}
 use Rattle.std.proofs.lemmas.List.{take_all, length-map, get_or-map}
 use Rattle.std.proofs.lemmas.Int.{to_z-of_z}
 use Rattle.bag.specs.declared.lines.ChangeLine.{ChangeLine}
-use Rattle.bag.specs.Bag.{Line, Lines, Canonical, with_line}
+use Rattle.bag.specs.Bag.{Line, Lines, Canonical}
 use Rattle.sheet.specs.Sheets.{change_line, of_node, OnSheet}
 use Rattle.delta.specs.Walks.{Walked}
 use Rattle.delta.proofs.Steps.{walked_none, line_more}

@@ -1,11 +1,11 @@
-use Rattle.std.proofs.Common.{◌≡◌, ℕ, ◌+◌, ◌<◌, ◌≤◌, Bool, List, [], ◌∷◌, ◌++◌, length, get_or, take, ℤ, pos, sym, ap, ◌∙◌, subst, arith, w32, SFits, rules}
-use Rattle.std.proofs.lemmas.List.{take_all, append-nil}
+use Rattle.std.proofs.Common.{◌≡◌, ℕ, ◌<◌, ◌≤◌, Bool, List, [], length, get_or, take, pos, sym, ap, ◌∙◌, subst, arith, w32, SFits, rules}
+use Rattle.std.proofs.lemmas.List.{take_all}
 use Rattle.std.proofs.lemmas.Int.{to_z-of_z}
 use Rattle.bag.specs.declared.lines.ChangeLine.{ChangeLine}
 use Rattle.bag.specs.Order.{Row}
 use Rattle.bag.specs.Columns.{column_of, operand_of}
 use Rattle.bag.specs.Condition.{stands}
-use Rattle.bag.specs.Bag.{Line, Lines, Canonical, with_line}
+use Rattle.bag.specs.Bag.{Line, Lines, Canonical}
 use Rattle.bag.specs.Operators.{select}
 use Rattle.sheet.specs.Sheets.{change_line, of_node, OnSheet, RunOf}
 use Rattle.sheet.proofs.Laid.{run_long}

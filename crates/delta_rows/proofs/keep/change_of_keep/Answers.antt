@@ -1,4 +1,4 @@
-use Rattle.std.proofs.Common.{◌≡◌, ℕ, ◌<◌, true, List, sym, rules}
+use Rattle.std.proofs.Common.{ℕ, ◌<◌, true, List, rules}
 use Rattle.bag.specs.Bag.{Lines}
 use Rattle.bag.proofs.OperatorLaws.{keep_follows_change, operators_give_bags}
 use Rattle.stock.specs.Holding.{shelf_of}

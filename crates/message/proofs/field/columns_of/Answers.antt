@@ -1,7 +1,7 @@
 use Rattle.std.proofs.Common.{◌≡◌, ◌+◌, ◌<◌, length, take, Some, None, refl, ◌∙◌, arith, length-set, w32, SFits, rules}
 use Rattle.std.proofs.lemmas.List.{take_all, take_more_set}
 use Rattle.std.proofs.lemmas.Int.{to_z-of_z}
-use Rattle.message.specs.Decode.{columns, column_field, bit}
+use Rattle.message.specs.Decode.{column_field, bit}
 use Rattle.message.proofs.Rows.{columns_none, columns_more, columns_stop, columns_torn}
 use Rattle.message.proofs.field.columns_of.Goals as goal
 

@@ -1,4 +1,4 @@
-use Rattle.std.proofs.Common.{◌≡◌, ◌^◌, ◌<◌, map, length, get_or, take, pos, sym, arith, w32, SFits, rules}
+use Rattle.std.proofs.Common.{◌≡◌, ◌^◌, ◌<◌, length, get_or, take, pos, sym, arith, w32, SFits, rules}
 use Rattle.std.proofs.lemmas.List.{take_all}
 use Rattle.message.proofs.Maps.{bits_none}
 use Rattle.message.proofs.Columns.{zero_by_bits, nonzero_by_bits, column_present, column_absent}

@@ -1,4 +1,4 @@
-use Rattle.std.proofs.Common.{◌-◌, ◌≤◌, length, sym, ap, rules}
+use Rattle.std.proofs.Common.{◌≤◌, length, sym, ap, rules}
 use Rattle.std.proofs.lemmas.Result.{err_from_is_err_and}
 use Rattle.message.specs.Refusal.{read_refusal}
 use Rattle.message.specs.Listed.{items}

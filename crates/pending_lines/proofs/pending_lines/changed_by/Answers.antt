@@ -1,4 +1,4 @@
-use Rattle.std.proofs.Common.{get_or, ℤ, ◌+ℤ◌, ap, ◌∙◌, arith, w32, SFits, rules}
+use Rattle.std.proofs.Common.{get_or, ◌+ℤ◌, ap, ◌∙◌, arith, w32, SFits, rules}
 use Rattle.std.proofs.lemmas.List.{get_or_default}
 use Rattle.std.proofs.lemmas.Int.{wrapping_add_is, int_wrap_fits}
 use Rattle.pending_lines.specs.declared.pending_lines.PendingLine.{PendingLine}

@@ -1,8 +1,8 @@
-use Rattle.std.proofs.Common.{◌≡◌, ℕ, suc, ◌+◌, ◌<◌, ◌≤◌, ◌⊎◌, List, ◌++◌, length, get_or, drop, inl, inr, ⊎_elim, arith}
+use Rattle.std.proofs.Common.{◌≡◌, ℕ, suc, ◌+◌, ◌<◌, ◌≤◌, List, ◌++◌, length, drop, ⊎_elim, arith}
 use Rattle.std.proofs.lemmas.Bool.{cases_lt}
 use Rattle.bag.specs.Bag.{Lines}
 use Rattle.sheet.specs.Sheets.{of_node, flattened}
-use Rattle.posting.proofs.NetsPart.{no_line, not_past, not_before, at_end, none_past}
+use Rattle.posting.proofs.NetsPart.{not_past, not_before, at_end, none_past}
 use Rattle.posting.proofs.nets_part.end_of_node.Goals as goal
 
 pub returns-then-nets-i : goal.returns-then-nets-i

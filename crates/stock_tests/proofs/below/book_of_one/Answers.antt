@@ -1,4 +1,4 @@
-use Rattle.std.proofs.Common.{◌≡◌, true, not, ◌||◌, map, sym, refl, ap, ◌∙◌, subst}
+use Rattle.std.proofs.Common.{◌≡◌, true, not, ◌||◌, map, sym, ap, ◌∙◌, subst}
 use Rattle.bag.specs.Bag.{is_zero}
 use Rattle.stock.specs.Refusal.{told}
 use Rattle.pending_lines.specs.PendingLines.{key, keyed, has_place}

@@ -1,5 +1,4 @@
-use Rattle.std.proofs.Common.{◌≡◌, ℕ, List, [], length, replicate, sym, refl, ap, ◌∙◌}
-use Rattle.std.proofs.lemmas.List.{ext_get_or, length-replicate, get_or-replicate}
+use Rattle.std.proofs.Common.{◌≡◌, [], length, replicate, sym, refl, ap, ◌∙◌}
 use Rattle.bag.specs.Bag.{collect}
 use Rattle.byte_stock.specs.ByteLines.{padded}
 use Rattle.byte_stock.specs.ByteStored.{shelves_of, bag_on, holding_of}
