@@ -9,6 +9,6 @@ mod lent_run;
 #[cfg(test)]
 mod lists_of_calls;
 #[cfg(test)]
-mod ordered_stock;
+mod ordered;
 #[cfg(test)]
-mod pending_book;
+mod pending;
