@@ -1,7 +1,7 @@
 -- A canonical list is known by its counts. Assumes nothing.
 --     before_transitive, count_before, count_head      what stands before the first line, and in it
 --     canonical_add_copies, canonical_collect          the results are canonical
---     equal_counts           canonical lists with equal counts are equal
+--     equal_counts                                     canonical lists with equal counts are equal
 use Rattle.std.proofs.Common.{◌≡◌, zero, suc, [], ◌∷◌, ℤ, pos, negsuc, ◌+ℤ◌, Ordering, Less, Equal, Greater, sym, refl, ap, ◌∙◌, ap₂, arith}
 use lib.IntN.{+ℤ_idl, +ℤ_idr}
 use Rattle.std.proofs.lemmas.Int.{ints}

@@ -1,8 +1,8 @@
 -- What holds of each row of the bags below holds of each row of an operator's bag. Assumes nothing.
 --     rows_with_line, rows_add_copies, rows_collect, rows-++      of lists of lines
---     rows_select, rows_map_counts      the rows are among those below
+--     rows_select, rows_map_counts                                the rows are among those below
 --     rows_map_rows, rows_project, rows_matches, rows_products, rows_map_groups      the rows are made from those below
---     rows-support      of the rows that a change touches
+--     rows-support                                                of the rows that a change touches
 use Rattle.std.proofs.Common.{zero, suc, Bool, true, false, cond, [], ◌∷◌, ◌++◌, ℤ, pos, negsuc, ◌+ℤ◌, ◌*ℤ◌, Ordering, Less, Equal, Greater}
 use Rattle.bag.specs.Order.{Row, row_order}
 use Rattle.bag.specs.Bag.{Line, Lines, with_line, add_by, add_copies, collect, EachRow}

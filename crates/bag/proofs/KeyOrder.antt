@@ -1,6 +1,6 @@
 -- Lines are in a total order by a number and a row. Assumes nothing.
 --     number_equal, number_itself      `Equal` is equality of numbers
---     key_is_total      the order of whatever has a number and a row
+--     key_is_total                     the order of whatever has a number and a row
 use Rattle.std.proofs.Common.{◌≡◌, ℕ, ◌<◌, Ordering, Less, Equal, Greater, sym, refl, ap, ◌∙◌, subst, ap₂, arith}
 use Rattle.std.specs.Cmp.{nat_cmp_total, int_cmp_total, then_total, on_total, ranks, nat_cmp_is}
 use Rattle.std.specs.Ordering.{MatchOrdering, ordering_then, nat_cmp}

@@ -1,8 +1,8 @@
 -- The difference of two bags is the least change that leads from one to the other, and back again. Assumes nothing.
 --     bag_takes, bag_puts, puts_less_takes      the two halves of a change
 --     difference_is_least, difference_is_the_least_change      every rival takes and puts at least as many copies
---     changes_applied     what a change is applied to
---     changes_back, change_leads_back      the way back
+--     changes_applied                           what a change is applied to
+--     changes_back, change_leads_back           the way back
 use Rattle.std.proofs.Common.{◌≡◌, ◌⊎◌, ℤ, pos, negsuc, ◌+ℤ◌, ◌-ℤ◌, ◌≤ℤ◌, sym, refl, ◌∙◌, subst, ap₂, inl, inr, arith}
 use Rattle.std.proofs.lemmas.Int.{ints}
 use Rattle.bag.specs.Order.{Row}

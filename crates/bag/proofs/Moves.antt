@@ -2,10 +2,10 @@
 --     difference_moves, difference_only      the difference leads from old to new, and no other canonical list does
 --     collect_equal_counts, collect_canonical      collecting by counts, and a canonical list
 --     applied_moves, moves_applied           so does what a change is applied to
---     sum_moves           the sum over the new bag is the sum over the old plus the sum over the change: the one law of change
+--     sum_moves                              the sum over the new bag is the sum over the old plus the sum over the change: the one law of change
 --     count_project, project_copies, count_kept, count_both      the counts of linear operators
 --     map_rows_moves, project_moves, select_moves, both_moves      its instances that are linear operators
---     negated_moves       the way back
+--     negated_moves                          the way back
 use Rattle.std.proofs.Common.{◌≡◌, ℕ, Bool, true, false, cond, not, [], ◌∷◌, ◌++◌, ℤ, pos, ◌+ℤ◌, Ordering, Less, Equal, Greater, sym, refl, ap, ◌∙◌, ap₂, arith}
 use lib.IntN.{+ℤ_idl}
 use Rattle.std.proofs.lemmas.Int.{ints}

@@ -1,6 +1,6 @@
 -- Numbers of copies rewritten row by row. Assumes nothing.
 --     canonical_map_counts, count_map_counts      the result is canonical, and its counts
---     count_map_counts_where_any      the counts where the rewriting does not leave 0 as it is
+--     count_map_counts_where_any                  the counts where the rewriting does not leave 0 as it is
 --     count_takes, count_puts, count_support, count_monus      its instances
 use Rattle.std.proofs.Common.{◌≡◌, zero, suc, cond, [], ◌∷◌, ℤ, pos, negsuc, ◌+ℤ◌, ◌-ℤ◌, ◌≤ℤ◌, Ordering, Less, Equal, Greater, sym, refl, ap, ◌∙◌, subst, ap₂}
 use lib.IntN.{+ℤ_idl, +ℤ_idr}

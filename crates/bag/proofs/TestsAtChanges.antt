@@ -1,7 +1,7 @@
 -- Tests of lines, told from the changed rows and the touched groups alone. Assumes nothing.
 --     every_passes, every_if_each      that each line passes a test, by counts
 --     tests_follow_change, fit_follows_change      their laws
---     bag_from_counts     a canonical list without negative counts is a bag
+--     bag_from_counts                  a canonical list without negative counts is a bag
 use Rattle.std.proofs.Common.{◌≡◌, ℕ, zero, suc, Bool, true, false, cond, List, [], ◌∷◌, length, ℤ, pos, negsuc, ◌+ℤ◌, ◌≤ℤ◌, ◌<ℤ◌, Ordering, Less, Equal, Greater, sym, refl, ap, ◌∙◌, subst, ap₂, arith}
 use lib.IntN.{+ℤ_idl, +ℤ_idr}
 use Rattle.std.proofs.lemmas.Int.{ints}

@@ -6,8 +6,8 @@
 --     count xs q               how many copies of q there are; `copies_at q r n` is what a line of n copies of r adds to it
 --     add_copies r n xs        n more copies of r in a canonical list
 --     collect xs               any list of lines collected into canonical form
---     Canonical xs, IsBag xs  rows strictly ascend and no number is 0; and every number is positive
---     EachRow P xs            P holds of each row that is listed
+--     Canonical xs, IsBag xs   rows strictly ascend and no number is 0; and every number is positive
+--     EachRow P xs             P holds of each row that is listed
 --     every_line f xs          the test f passes at each line
 --     negated xs               every number negated
 --     difference old new       the change that leads from old to new

@@ -1,6 +1,6 @@
 -- Numbers in bytes, the highest byte first (big-endian), as messages, plans and stores have them. Assumes nothing.
 --
---   first-four   the signed number in the first four bytes, and the bytes behind them; none where one of the four is missing
+--   first_four   the signed number in the first four bytes, and the bytes behind them; none where one of the four is missing
 --   first_two    the same of two bytes and a number without sign
 --   first_one    the same of one byte
 --   in_four      a signed number as four bytes

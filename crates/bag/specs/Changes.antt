@@ -3,8 +3,8 @@
 --     Changes old d new         the same of bags and of a canonical d
 --     takes d, puts d           the copies that d takes, and those that it puts, as bags
 --     Rival old t p new         bags t and p such that t lies within old, and old − t + p is new; they may share rows
---     IsChange old t p new     the same, and no row is in both
---     IsLeast old t p new      every rival takes and puts at least as many copies of each row
+--     IsChange old t p new      the same, and no row is in both
+--     IsLeast old t p new       every rival takes and puts at least as many copies of each row
 use Rattle.std.specs.Prelude.{◌≡◌, suc, ◌⊎◌, ℤ, pos, negsuc, ◌+ℤ◌, ◌-ℤ◌, ◌≤ℤ◌}
 use Rattle.bag.specs.Order.{Row}
 use Rattle.bag.specs.Bag.{Lines, count, Canonical, IsBag}

@@ -6,8 +6,8 @@
 --     listed is r           the row of the listed columns of r
 --     followed w a b        the row of the first w columns of a and then the columns of b
 --     agree ps a b          each paired column of a equals its partner of b
---     OfWidth w r          r has eight columns, and those from w on hold 0
---     IsRow r              r has eight columns, each a signed 32-bit number: what the type Row holds
+--     OfWidth w r           r has eight columns, and those from w on hold 0
+--     IsRow r               r has eight columns, each a signed 32-bit number: what the type Row holds
 use Rattle.std.specs.Prelude.{◌≡◌, ℕ, ◌≤◌, Bool, true, ◌&&◌, List, [], ◌∷◌, ◌++◌, length, take, replicate, ℤ, pos, FitsSigned, slice_index_or}
 use Rattle.std.specs.Int.{w32}
 use Rattle.std.specs.List.{AllByRecursion}

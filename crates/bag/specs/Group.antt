@@ -1,7 +1,7 @@
 -- An abelian group, and the sum over a list of lines of what the copies of each row are worth in it. Assumes nothing.
 --     Group V                zero, plus and minus on V
---     GroupLaws ok G        the laws of an abelian group, asked of the values that code can hold
---     AddsUp ok G f         f a n, the worth of n copies of a, is zero at 0 and adds up over n, negative n included
+--     GroupLaws ok G         the laws of an abelian group, asked of the values that code can hold
+--     AddsUp ok G f          f a n, the worth of n copies of a, is zero at 0 and adds up over n, negative n included
 --     sum_over G f xs        the plus, over the lines of xs, of f row n
 --     integers               the group of all integers, and `every_integer` of which its laws are asked
 use Rattle.std.specs.Prelude.{◌≡◌, [], ◌∷◌, ℤ, pos, ◌+ℤ◌, neg_ℤ}

@@ -1,23 +1,23 @@
 -- The laws of bags, sums, operators and changes, as statements; each is held by the contract of a function of the same name. Assumes nothing.
---     EqualCountsMeanEqualBags            two canonical lists with equal counts are one list
---     EqualCountsOfRowsMeanEqualBags    the same where only rows that the type Row holds are listed and compared
---     TheLowestRowIsLeast                 eight times the smallest number is less than every other such row
---     ColumnsAreAsSaid                     which columns agree, and which stand where in a row that is listed or joined
+--     EqualCountsMeanEqualBags              two canonical lists with equal counts are one list
+--     EqualCountsOfRowsMeanEqualBags        the same where only rows that the type Row holds are listed and compared
+--     TheLowestRowIsLeast                   eight times the smallest number is less than every other such row
+--     ColumnsAreAsSaid                      which columns agree, and which stand where in a row that is listed or joined
 --     SumFollowsChange G f                  the sum over the new bag is the sum over the old plus the sum over the change
 --     CountsAreSums                         counts of bags, of projections and of joins are such sums
---     OperatorsCountAsSaid                 the counts of keep, both and less
+--     OperatorsCountAsSaid                  the counts of keep, both and less
 --     OperatorsGiveBags                     keep, pick, pair, both and less make bags of bags
 --     OperatorsKeepWidths, TotalKeepsItsWidth M      how wide the rows are
 --     KeepFollowsChange, and so on          what is worked out from old bags and changes is the difference of the operator's bags
 --     TotalFollowsChange M                  the same of a total, group by group
---     TotalFollowsChangeFromItsRows M    the same, where old copies and values are read back from the total's own old bag
---     TotalHasARowForEachGroup M        a total is the rows of its groups; a group is there exactly if it has copies
+--     TotalFollowsChangeFromItsRows M       the same, where old copies and values are read back from the total's own old bag
+--     TotalHasARowForEachGroup M            a total is the rows of its groups; a group is there exactly if it has copies
 --     TestsFollowChange, LinesFollowChange, FitFollowsChange M      tests of counts, the number of lines, and whether every
 --                                             group fits, told from the changed rows and the touched groups alone
---     DifferenceIsTheLeastChange          the difference of two bags leads from old to new, and no rival takes or puts fewer copies
+--     DifferenceIsTheLeastChange            the difference of two bags leads from old to new, and no rival takes or puts fewer copies
 --     ChangeLeadsBack                       a change negated leads from new to old
 --     ChangeTurnsRound                      a change with takes and puts exchanged leads from new to old; so do the takes and puts of its negation
---     NextFindsTheRowAfter                next answers the smallest greater row, and none if none is greater
+--     NextFindsTheRowAfter                  next answers the smallest greater row, and none if none is greater
 use Rattle.std.specs.Prelude.{◌≡◌, ℕ, ◌+◌, ◌-◌, ◌<◌, ◌≤◌, Bool, true, false, cond, ◌⊎◌, List, length, ℤ, pos, ◌+ℤ◌, ◌-ℤ◌, ◌*ℤ◌, Some, None, Decides, Option, slice_index_or}
 use Rattle.std.specs.declared.cmp.Ordering.TheVariants.{Less}
 use Rattle.bag.specs.declared.condition.Relation.{Relation}

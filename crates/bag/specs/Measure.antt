@@ -1,7 +1,7 @@
 -- A measure (an aggregate whose values form an abelian group): what a total shows of a column's values over all copies. Assumes nothing.
 --     Measure V             group, the worth of v at n copies, whether a value fits, K, the columns shown, the value read back from them
---     ShownColumn c        c is a signed 32-bit number other than −2,147,483,648
---     MeasureLaws ok M     what a measure owes
+--     ShownColumn c         c is a signed 32-bit number other than −2,147,483,648
+--     MeasureLaws ok M      what a measure owes
 --     copies_alone          the measure of one value
 use Rattle.std.specs.Prelude.{◌≡◌, ℕ, ◌<◌, ◌≤◌, Bool, true, List, [], ◌∷◌, length, ℤ, unsigned_abs}
 use Rattle.bag.specs.Group.{Group, GroupLaws, AddsUp}

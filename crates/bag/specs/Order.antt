@@ -4,7 +4,7 @@
 --     key_order m a n b       the number decides, then the row
 --     stock_line_order        the order of lines by shelf and row
 --     change_line_order       the order of lines by node and row
---     LawfulOrder key order  `order` is a total order of what `key` gives
+--     LawfulOrder key order   `order` is a total order of what `key` gives
 use Rattle.std.specs.Prelude.{◌≡◌, ℕ, List, ℤ}
 use Rattle.std.specs.declared.cmp.Ordering.TheVariants.{Less, Equal}
 use Rattle.std.specs.declared.cmp.Ordering.{Ordering}

@@ -1,6 +1,6 @@
 -- The order of rows is total, and rows that it holds equal are the same. Assumes nothing.
 --     column_equal, column_itself, column_less      the same of one column
---     order_equal, order_itself      `Equal` is equality
+--     order_equal, order_itself                     `Equal` is equality
 --     order_turned, order_transitive, greater_less, less_greater      the two outer answers
 use Rattle.std.specs.Prelude.{◌≡◌, ℕ, [], ◌∷◌, ℤ, ◌<ℤ◌, refl}
 use Rattle.std.specs.declared.cmp.Ordering.TheVariants.{Less, Equal, Greater}

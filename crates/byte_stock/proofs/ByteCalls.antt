@@ -1,6 +1,6 @@
 -- What each way through a put and a take leaves in bytes. Assumes nothing.
 --     left_node, taken_node      there is no such shelf
---     left-over .. left_new      the ways of a put
+--     left_over .. left_new      the ways of a put
 --     taken_short .. taken_idle  the ways of a take
 --     count_found, count_none    the count that a search tells
 use Rattle.std.proofs.Common.{◌≡◌, ℕ, ◌+◌, ◌-◌, ◌*◌, ◌<◌, ◌≤◌, List, [], ◌∷◌, ◌++◌, length, set, Ok, Err, sym, refl, ap, ◌∙◌, arith}

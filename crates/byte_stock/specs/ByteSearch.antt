@@ -1,6 +1,6 @@
 -- What the searches over stored lines find, told of the bytes. Assumes nothing.
 --     Nowhere b len s r         none of the first `len` lines is of row r on shelf s
---     AtPlace b len s r i      line i is, and is one of the first `len`
+--     AtPlace b len s r i       line i is, and is one of the first `len`
 --     Best b len s r n i        of the first n lines that are on shelf s with a row greater than r, line i has the smallest; `len` if none is
 --     better b len s r i k      line k, if it is better than line i, the best so far, else i
 use Rattle.std.specs.Prelude.{◌≡◌, ℕ, ◌<◌, ◌≤◌, true, false, cond, List, ◌==◌, ◌≢◌}

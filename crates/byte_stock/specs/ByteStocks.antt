@@ -1,12 +1,12 @@
 -- What a stock in lent bytes means, what stands in its bytes, and what its calls keep and leave. Assumes nothing.
 --     capacity_in n          how many lines fit into n bytes: whole lines of 35 bytes, at most 4,096
 --     held_in b len          what bytes with `len` lines mean
---     SoundLines b len      the bytes are the layout of lawful lines, which are apart and fit, followed by 00 only
+--     SoundLines b len       the bytes are the layout of lawful lines, which are apart and fit, followed by 00 only
 --     answer_in r, length_by r len      what is answered where a call also tells how many lines there are then; and that number
 --     stored, held, SoundBytes, lent_bytes      the same of a stock, and the name of its memory
---     SameMemory old new    the stock stands over the memory that it stood over, as long as it was
---     PutLeft, TakeLeft    all that a put and a take leave in memory, and what they answer
---     PutLeaves, TakeLeaves      the same of stocks
+--     SameMemory old new     the stock stands over the memory that it stood over, as long as it was
+--     PutLeft, TakeLeft      all that a put and a take leave in memory, and what they answer
+--     PutLeaves, TakeLeaves  the same of stocks
 use Rattle.std.specs.Prelude.{◌≡◌, ℕ, ◌/◌, ◌≤◌, min, List, length, Ok, Err, Result}
 use Rattle.std.specs.List.{AllByRecursion}
 use Rattle.bag.specs.Order.{Row}

@@ -1,7 +1,7 @@
 -- What is known where the change of a node is worked out, and what working it out owes; one form for all operators. Assumes nothing.
---     within_count n, counts_fit xs      a count that a line can have, at most 65,535; every count of a bag is one
---     LawfulRow w r                 r is w columns wide, and no column is −2,147,483,648
---     LowerNode w old d new         what is known of a node below: its change leads from its old to its new bag, of rows w wide
+--     within_count n, counts_fit xs  a count that a line can have, at most 65,535; every count of a bag is one
+--     LawfulRow w r                  r is w columns wide, and no column is −2,147,483,648
+--     LowerNode w old d new          what is known of a node below: its change leads from its old to its new bag, of rows w wide
 --     Setting h ws k old ds news     the stock holds h, of the node k the bag `old`; ds are the changes and news the new bags of the
 --                                    nodes below, whose rows are as wide as ws says
 --     Filled room sheet used ds      the sheet has the changes ds, and room for all of them

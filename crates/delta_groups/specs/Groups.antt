@@ -1,11 +1,11 @@
 -- A group of a total as code has it. It describes how code works, not what a total means. Assumes nothing.
---     IsGroup n k                  k is n values, and zeros behind
---     RoomForGroup M n            n values, the copies and what the measure shows fit into a row
+--     IsGroup n k                   k is n values, and zeros behind
+--     RoomForGroup M n              n values, the copies and what the measure shows fit into a row
 --     row_if_fits M n k c v         the row of the group k of c copies and the value v, or none if the value does not fit
 --     row_if_there M n k c v        the same, and none if there are no copies
 --     one_of r                      one copy of a row, or no line
 --     plus_if_equal G o v w         v with w added to it, if the rows compared are equal
---     ValuesOf M j is d xs vs      to each group of xs, in order, stands its value over the change d
+--     ValuesOf M j is d xs vs       to each group of xs, in order, stands its value over the change d
 use Rattle.std.specs.Prelude.{◌≡◌, ℕ, ◌+◌, ◌<◌, ◌≤◌, cond, List, [], ◌∷◌, length, get_or, take, ℤ, pos, Some, None, Option, slice_index_or}
 use Rattle.std.specs.declared.cmp.Ordering.TheVariants.{Less, Equal, Greater}
 use Rattle.std.specs.declared.cmp.Ordering.{Ordering}

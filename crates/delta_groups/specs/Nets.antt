@@ -3,7 +3,7 @@
 --     added r n xs        n more copies of r among the lines xs; a row whose copies come to 0 stays
 --     gathered ys         the lines ys added up one by one
 --     without_zeros xs    the lines of xs whose number is not 0
---     SmallLines ys      every number is within ±65,535
+--     SmallLines ys       every number is within ±65,535
 --     Nets t xs           the table t is sound and its entries are the lines xs
 use Rattle.std.specs.Prelude.{◌≡◌, ◌≤◌, [], ◌∷◌, ℤ, ◌+ℤ◌, unsigned_abs}
 use Rattle.std.specs.List.{AllByRecursion}

@@ -1,6 +1,6 @@
 -- What is known of either side where two changes are merged. It describes how code works, not what a change means. Assumes nothing.
 --     IsCount n             n is from 0 to 65,535
---     Side h es run c d      in es, the run has the change d of node c, whose counts are counts before and after it
+--     Side h es run c d     in es, the run has the change d of node c, whose counts are counts before and after it
 use Rattle.std.specs.Prelude.{ℕ, List, ℤ, pos, ◌+ℤ◌, ◌≤ℤ◌}
 use Rattle.bag.specs.declared.lines.ChangeLine.{ChangeLine}
 use Rattle.bag.specs.Order.{Row}

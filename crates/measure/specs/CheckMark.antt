@@ -1,7 +1,7 @@
 -- Check mark: the exclusive or of the 32-bit patterns of numbers, each once if its copies are odd and never if even. Assumes nothing.
 --     check_mark        the measure
 --     marks             its group: exclusive or, of which every value is its own inverse
---     IsMark v         v is a pattern of 32 bits
+--     IsMark v          v is a pattern of 32 bits
 --     pattern v         the 32-bit pattern of v: v modulo 2^32, as a number from 0
 --     is_odd n          n is odd, negative n included
 --     low_half c        the lower 16 bits of a column

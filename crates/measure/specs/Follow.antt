@@ -1,7 +1,7 @@
 -- The value of a bag's column over all copies, and that it follows from changes alone. Assumes nothing.
 --     line_of l, lines_of ls         the lines of a sheet as rows with a signed number of copies
 --     column_value M j xs            the plus, over the lines of xs, of what the copies of column j are worth
---     ValueFollowsChange M j       the value over the new bag is the value over the old one plus the value over the change
+--     ValueFollowsChange M j         the value over the new bag is the value over the old one plus the value over the change
 use Rattle.std.specs.Prelude.{ℕ, List, map}
 use Rattle.bag.specs.declared.lines.ChangeLine.{ChangeLine}
 use Rattle.bag.specs.Bag.{Line, Lines}

@@ -1,8 +1,8 @@
 -- The round trip of a measure's values through rows. Assumes nothing.
 --     shown_again M v        what is read from the row that shows v, or none if v does not fit
 --     if_it_fits M v         v, or none if it does not fit
---     RowOf M v row         what is owed of a row that shows v
---     RoundTrip ok M        each row that a value is shown in is such a row, and zero is shown
+--     RowOf M v row          what is owed of a row that shows v
+--     RoundTrip ok M         each row that a value is shown in is such a row, and zero is shown
 use Rattle.std.specs.Prelude.{◌≡◌, ℕ, ◌<◌, cond, negsuc, Some, None, Option, ◌≢◌}
 use Rattle.bag.specs.Order.{Row}
 use Rattle.bag.specs.Columns.{column_of, padded, OfWidth}

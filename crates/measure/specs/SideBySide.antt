@@ -1,7 +1,7 @@
 -- Side by side: two measures of the same numbers, whose values are pairs. Assumes nothing.
 --     side_by_side A B      the measure
 --     beside G H            its group: each part in its own group
---     OkPair ok ok' v      each part is a value of which its measure's laws are asked
+--     OkPair ok ok' v       each part is a value of which its measure's laws are asked
 --     exactly k zs          k columns: those of zs, then 0, cut off behind k
 use Rattle.std.specs.Prelude.{ℕ, ◌+◌, min, ◌&&◌, List, ◌++◌, take, drop, ℤ}
 use Rattle.bag.specs.Columns.{padded}

@@ -1,6 +1,6 @@
 -- Two lawful measures side by side keep the laws of a measure, and the code's steps show and read what they should. Assumes nothing.
 --     side_by_side_laws              all of the laws
---     columns_are                    the columns of a pair that fits
+--     columns_as_far, columns_are    the columns of a pair that fits, where the first leaves room, and below eight columns
 --     shown_both                     what is shown, from what the parts show
 --     read_both                      what is read, from what the parts read
 use Rattle.std.specs.Prelude.{◌≡◌, ℕ, ◌+◌, ◌<◌, ◌≤◌, min, Bool, true, false, cond, ◌&&◌, ◌⊎◌, List, [], ◌∷◌, ◌++◌, length, take, drop, ℤ, Some, None, refl}
@@ -51,9 +51,9 @@ module _ {V W : Type 0} {ok : V → Type 0} {ok' : W → Type 0} (A : Measure V)
     adds = λ v m n. pair (L.adds_up.adds v m n) (K.adds_up.adds v m n);
   }
 
-  -- where the value fits, its columns are the first's and then the second's
-  pub columns_are : A.shows < 8 → (v : V × W) → OkPair ok ok' v → (side_by_side A B).fits v ≡ true → (side_by_side A B).columns v ≡ A.columns v.0 ++ B.columns v.1
-  columns_are less v a f =
+  -- where the value fits, its columns are the first's and then the second's, as far as there is room
+  pub columns_as_far : A.shows < 8 → (v : V × W) → OkPair ok ok' v → (side_by_side A B).fits v ≡ true → (side_by_side A B).columns v ≡ A.columns v.0 ++ B.columns v.1
+  columns_as_far less v a f =
       let t = both_true (A.fits v.0) (B.fits v.1) f in
       ap (λ zs. zs ++ B.columns v.1) (exactly_self A.shows (A.columns v.0) ((L.showing less).as_many v.0 a.0 t.0) (omega arith))
 
@@ -71,9 +71,13 @@ module _ {V W : Type 0} {ok : V → Type 0} {ok' : W → Type 0} (A : Measure V)
         let p = length_exactly A.shows (A.columns v.0) (omega arith) in
         let q = T.as_many v.1 a.1 t.1 in omega arith
 
+    -- where the value fits, its columns are the first's and then the second's
+    pub columns_are : (v : V × W) → OkPair ok ok' v → (side_by_side A B).fits v ≡ true → (side_by_side A B).columns v ≡ A.columns v.0 ++ B.columns v.1
+    columns_are v a f = columns_as_far (omega arith) v a f
+
     back : (v : V × W) → OkPair ok ok' v → (side_by_side A B).fits v ≡ true → (side_by_side A B).reads ((side_by_side A B).columns v) ≡ v
     back v a f =
-        ap (side_by_side A B).reads (columns_are (omega arith) v a f)
+        ap (side_by_side A B).reads (columns_are v a f)
         ∙ pair
         (ap A.reads (take_at (A.columns v.0) (B.columns v.1) A.shows p) ∙ S.read_back v.0 a.0 t.0)
         (ap (λ zs. B.reads (exactly B.shows zs)) (drop_at (A.columns v.0) (B.columns v.1) A.shows p)
@@ -89,7 +93,7 @@ module _ {V W : Type 0} {ok : V → Type 0} {ok' : W → Type 0} (A : Measure V)
     lowest : (v : V × W) → OkPair ok ok' v → (side_by_side A B).fits v ≡ true → ShownColumns ((side_by_side A B).columns v)
     lowest v a f =
         let t = both_true (A.fits v.0) (B.fits v.1) f in
-        rw (columns_are (omega arith) v a f) (shown-++ (A.columns v.0) (B.columns v.1) (S.never_lowest v.0 a.0 t.0) (T.never_lowest v.1 a.1 t.1))
+        rw (columns_are v a f) (shown-++ (A.columns v.0) (B.columns v.1) (S.never_lowest v.0 a.0 t.0) (T.never_lowest v.1 a.1 t.1))
 
     showing : ShowingLaws (OkPair ok ok') (side_by_side A B)
     showing = record { as_many = many; read_back = back; never_lowest = lowest; zero_fits = ap₂ (λ a b. a && b) S.zero_fits T.zero_fits }

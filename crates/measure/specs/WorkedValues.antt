@@ -2,7 +2,7 @@
 --     fits_as M v zs          v fits, and shows the columns zs
 --     does_not_fit M v        v does not fit
 --     four_marks              four check marks side by side, two in two
---     WorkedValues           marks, sums at the bounds of what fits, measures side by side, nested and past eight columns
+--     WorkedValues            marks, sums at the bounds of what fits, measures side by side, nested and past eight columns
 use Rattle.std.specs.Prelude.{◌≡◌, ℕ, List, [], ◌∷◌, ℤ, pos, negsuc, Some, None}
 use Rattle.bag.specs.Columns.{padded}
 use Rattle.bag.specs.Measure.{Measure}

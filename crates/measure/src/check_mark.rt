@@ -1,7 +1,7 @@
 ghost use Rattle.measure.specs.CheckMark.{IsMark, check_mark};
 ghost use Rattle.measure.specs.CheckMarkLaws.{check_mark_laws};
 
-use crate::measure::Measure;
+use crate::measure::{LawfulThroughout, Measure};
 use bag::row::Row;
 
 // The exclusive or of the numbers' patterns over all copies: two copies cancel, so only whether copies are odd counts.
@@ -53,5 +53,11 @@ impl Measure for CheckMark {
         let upper = columns[0].cast_unsigned() % 65536;
         let lower = columns[1].cast_unsigned() % 65536;
         upper * 65536 + lower
+    }
+}
+
+impl LawfulThroughout for CheckMark {
+    fn held(&self, value: u32) -> u32 {
+        value
     }
 }

@@ -1,7 +1,7 @@
 ghost use Rattle.measure.specs.HeadCount.{any_head, head_count};
 ghost use Rattle.std.proofs.Common.{rules};
 
-use crate::measure::Measure;
+use crate::measure::{LawfulThroughout, Measure};
 use bag::row::Row;
 
 // One value, and nothing to show: the copies that a total shows of each group say it all.
@@ -34,4 +34,8 @@ impl Measure for HeadCount {
     }
 
     fn read_back(&self, columns: &Row) -> () {}
+}
+
+impl LawfulThroughout for HeadCount {
+    fn held(&self, value: ()) -> () {}
 }

@@ -9,7 +9,7 @@ use bag::row::Row;
 pub trait Measure {
     type Value: Copy;
 
-    // The values that code can hold: the laws are asked of these, and `minus` sees to it that none is left out.
+    // The values that code can hold: the laws are asked of these.
     ghost ok: { Self.Value → Type 0 };
 
     // What the functions below compute.
@@ -23,11 +23,9 @@ pub trait Measure {
     fn plus(&self, a: Self::Value, b: Self::Value) -> Self::Value
         ensures { result ≡ model.group.plus a b };
 
-    // The inverse: what takes the value away again. That any value it is given is `ok` can be promised only where `ok` covers all
-    // that the type holds, so the laws are asked of no less; one such clause is enough, and `held` hands it on.
+    // The inverse: what takes the value away again.
     fn minus(&self, a: Self::Value) -> Self::Value
-        ensures answer { result ≡ model.group.minus a }
-        ensures held { ok a };
+        ensures { result ≡ model.group.minus a };
 
     // The value of so many copies of a number; a negative number of copies takes them away.
     fn worth(&self, number: i32, copies: i64) -> Self::Value
@@ -50,11 +48,10 @@ pub trait Measure {
     ghost lawful: { MeasureLaws ok model };
 }
 
-// Any value at hand, read back from a row or summed, is one that the laws are asked of. It comes back as it is.
-pub fn held<M: Measure>(measure: &M, value: M::Value) -> M::Value
-    ensures same { result ≡ value }
-    ensures held { M.Measure.ok value }
-{
-    let _ = measure.minus(value);
-    value
+// A measure whose laws are asked of every value that its type holds: so any value at hand, read back from a row or summed, is `ok`.
+pub trait LawfulThroughout: Measure {
+    // The value as it is.
+    fn held(&self, value: Self::Value) -> Self::Value
+        ensures same { result ≡ value }
+        ensures held { Self.ok value };
 }

@@ -2,7 +2,7 @@ ghost use Rattle.measure.specs.SideBySide.{OkPair, side_by_side};
 ghost use Rattle.measure.specs.SideBySideLaws.{side_by_side_laws};
 
 use crate::columns::{columns_from, followed_by};
-use crate::measure::Measure;
+use crate::measure::{LawfulThroughout, Measure};
 use bag::row::Row;
 
 // Two measures of the same numbers; either may itself be side by side.
@@ -54,5 +54,11 @@ impl<A: Measure, B: Measure> Measure for SideBySide<A, B> {
     fn read_back(&self, columns: &Row) -> (A::Value, B::Value) {
         let rest = columns_from(columns, self.first.column_count());
         (self.first.read_back(columns), self.second.read_back(&rest))
+    }
+}
+
+impl<A: LawfulThroughout, B: LawfulThroughout> LawfulThroughout for SideBySide<A, B> {
+    fn held(&self, value: (A::Value, B::Value)) -> (A::Value, B::Value) {
+        (self.first.held(value.0), self.second.held(value.1))
     }
 }

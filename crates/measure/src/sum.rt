@@ -3,7 +3,7 @@ ghost use Rattle.std.specs.Int.{w64};
 ghost use Rattle.measure.specs.Sum.{sum};
 ghost use Rattle.measure.specs.SumLaws.{sum_laws};
 
-use crate::measure::Measure;
+use crate::measure::{LawfulThroughout, Measure};
 use bag::row::Row;
 
 // The sum of the numbers over all copies, modulo 2^64.
@@ -50,5 +50,11 @@ impl Measure for Sum {
 
     fn read_back(&self, columns: &Row) -> i64 {
         columns[0] as i64
+    }
+}
+
+impl LawfulThroughout for Sum {
+    fn held(&self, value: i64) -> i64 {
+        value
     }
 }

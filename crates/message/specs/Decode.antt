@@ -1,7 +1,7 @@
 -- One record read from bytes: its map, then the fields whose bit stands.
 --
 --   bit                                    bit k of a map, the lowest is bit 0
---   column-field, count-field, node-field  a field that stands is read, one that does not has its value
+--   column_field, count_field, node_field  a field that stands is read, one that does not has its value
 --   columns                                the first k columns of the row
 --   fields                                 all fields behind a map, and the bytes behind them; none where one is not whole
 --   allowed                                the map has no unknown bit, and no field that stands holds a forbidden value

@@ -1,11 +1,11 @@
 -- The bytes of one record: a map of two bytes, then the fields that do not have the value of an absent one.
 --
---   map-bits       for each field whether it stands, column 0 first, then count, node and the mark of a take
---   bits-value     the number that bits make, the lowest bit first
+--   map_bits       for each field whether it stands, column 0 first, then count, node and the mark of a take
+--   bits_value     the number that bits make, the lowest bit first
 --   map_of         the map
---   column-bytes, count-bytes, node-bytes   a field's bytes; none where the value is that of an absent field
+--   column_bytes, count_bytes, node_bytes   a field's bytes; none where the value is that of an absent field
 --   encode         the record's bytes
---   encode-all     the bytes of a message
+--   encode_all     the bytes of a message
 use Rattle.std.specs.Prelude.{ℕ, ◌+◌, ◌*◌, Bool, true, false, cond, not, List, [], ◌∷◌, ◌++◌, map, ℤ, ◌==◌}
 use Rattle.std.specs.List.{flat_map}
 use Rattle.message.specs.declared.record.Record.{Record}

@@ -1,8 +1,8 @@
 -- Which records a message can hold.
 --
 --   lawful           no column is the smallest number, the count is at least 1, the node at most 15
---   first-unlawful   the index of the first record that is not lawful
---   In-range         eight columns, each a signed number of 32 bits, and a count of 16 bits: what the type Record holds
+--   first_unlawful   the index of the first record that is not lawful
+--   InRange          eight columns, each a signed number of 32 bits, and a count of 16 bits: what the type Record holds
 use Rattle.std.specs.Prelude.{◌≡◌, ℕ, suc, ◌<◌, Bool, true, cond, not, ◌&&◌, List, [], ◌∷◌, length, ℤ, pos, negsuc, Some, None, Option, FitsSigned, ◌==◌, nat_le}
 use Rattle.std.specs.Option.{option_map}
 use Rattle.std.specs.List.{AllByRecursion}

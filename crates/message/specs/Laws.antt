@@ -1,10 +1,10 @@
 -- The laws of reading and writing, over whole messages.
 --
---   Read-then-written    a message that is read without a refusal, written again, gives its bytes
---   Written-then-read    lawful records, at most 1,024, are written where there is room, and read again give themselves and then none
---   One-to-one           two such lists of records with equal bytes are equal
---   Cursor-reads         the steps of a cursor answer the records in order, then none or the refusal, again and again
---   Cursor-stands        after i steps the cursor stands behind the bytes of the records that these answered, and a refusal's place is there
+--   ReadThenWritten      a message that is read without a refusal, written again, gives its bytes
+--   WrittenThenRead      lawful records, at most 1,024, are written where there is room, and read again give themselves and then none
+--   OneToOne             two such lists of records with equal bytes are equal
+--   CursorReads          the steps of a cursor answer the records in order, then none or the refusal, again and again
+--   CursorStands         after i steps the cursor stands behind the bytes of the records that these answered, and a refusal's place is there
 use Rattle.std.specs.Prelude.{◌≡◌, ℕ, ◌≤◌, List, ◌++◌, length, drop, None, Ok, Err}
 use Rattle.std.specs.List.{slice_get, AllByRecursion}
 use Rattle.bag.specs.Refusal.{Refusal}

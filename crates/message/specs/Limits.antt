@@ -1,6 +1,6 @@
 -- How many records a message may hold.
 --
---   max-records    1,024
+--   max_records    1,024
 use Rattle.std.specs.Prelude.{ℕ}
 
 abbrev pub max_records : ℕ

@@ -2,8 +2,8 @@
 --
 --   Reading        a message as its reader meets it: each record with its first byte, then the end or a refusal
 --   reading        the reading of a message's bytes, of which a 1,025th record is refused
---   records-of     the records of a reading that comes to its end, or the refusal that it comes to
---   first-records  the records that the first i steps answer
+--   records_of     the records of a reading that comes to its end, or the refusal that it comes to
+--   first_records  the records that the first i steps answer
 --   answer_at      the answer of the cursor's i-th step, counted from 0
 --   step           one step of the cursor: its answer, the next record's first byte and how many records were read
 --   stand          where the cursor stands after i steps

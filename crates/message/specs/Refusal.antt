@@ -1,11 +1,11 @@
 -- The number and the place of every refusal of the reader and of the writer. This is the only place that gives them numbers.
 --
---   read-refusal    Torn 1, Map 2, Long 3, each at the first byte of the record that is refused
---   write-refusal   Long 3 at 1,024; Map 2 at the index of the first unlawful record; Paper 8 at 0
+--   read_refusal    Torn 1, Map 2, Long 3, each at the first byte of the record that is refused
+--   write_refusal   Long 3 at 1,024; Map 2 at the index of the first unlawful record; Paper 8 at 0
 --   read_told       a reader's answer with its fault as number and place
---   write-told      a writer's answer, likewise
+--   write_told      a writer's answer, likewise
 --   Told            a refusal where both take part: whose it is, and its number and place
---   rewrite-told    the answer of a call that reads and writes
+--   rewrite_told    the answer of a call that reads and writes
 use Rattle.std.specs.Prelude.{Ok, Err, Result}
 use Rattle.bag.specs.Refusal.{Refusal, refusal}
 use Rattle.message.specs.Limits.{max_records}

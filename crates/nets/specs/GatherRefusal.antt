@@ -1,11 +1,11 @@
 -- The layer, the number and the place of every refusal of gathering.
 --
 --   Told             a refusal with its layer: the message's, or the yard's own
---   refusal-in       its number and place
---   table-refusal    Table 4 at the first byte of the record that is refused
---   gather-refusal   the reader's refusals whole, of the message's layer; Table of the yard's
---   gather-told      the answer of a call with its fault as layer, number and place
---   fault-in         the refusal that was told, if it was one
+--   refusal_in       its number and place
+--   table_refusal    Table 4 at the first byte of the record that is refused
+--   gather_refusal   the reader's refusals whole, of the message's layer; Table of the yard's
+--   gather_told      the answer of a call with its fault as layer, number and place
+--   fault_in         the refusal that was told, if it was one
 use Rattle.std.specs.Prelude.{ℕ, Some, None, Ok, Err, Option, Result}
 use Rattle.bag.specs.Refusal.{Refusal, refusal}
 use Rattle.message.specs.Refusal.{read_refusal}

@@ -1,13 +1,13 @@
 -- A message read for a plan: the movements of its bases, or the first refusal. Assumes nothing.
 --
---   clear-from w row        the columns of a row from w on hold 0
---   base-width n            the width of a base, none for another node
---   base-at nodes i         the width of node i, if it is a base of the plan
---   of-base nodes r         a record's node is a base of the plan, and its row has nothing past that base's width
---   movements-in nodes x    the records of a reading, if it comes to its end and each is of a base; else the first refusal:
+--   clear_from w row        the columns of a row from w on hold 0
+--   base_width n            the width of a base, none for another node
+--   base_at nodes i         the width of node i, if it is a base of the plan
+--   of_base nodes r         a record's node is a base of the plan, and its row has nothing past that base's width
+--   movements_in nodes x    the records of a reading, if it comes to its end and each is of a base; else the first refusal:
 --                           the reader's, or Table at the first byte of the record that is not of a base
---   movements-until nodes x   the records before the first refusal, or all
---   gathered nodes bytes, gathered-until nodes bytes      the same of a message's bytes
+--   movements_until nodes x   the records before the first refusal, or all
+--   gathered nodes bytes, gathered_until nodes bytes      the same of a message's bytes
 use Rattle.std.specs.Prelude.{ℕ, Bool, false, cond, List, [], ◌∷◌, drop, Some, None, Ok, Err, Option, Result}
 use Rattle.std.specs.List.{slice_get}
 use Rattle.bag.specs.Order.{Row}

@@ -1,14 +1,14 @@
 -- What the nets of a message say of its records.
 --
---   moves-here i q r        a record moves copies of the row q at node i
---   copies-put i q m        how many copies of the row q the records m put on node i
---   copies-taken i q m      how many they take from it
---   at-node i ls            what the change lines ls have of node i
---   Ascending-lines ls      the lines ascend by node and row, so each row of a node stands once, and no change is 0
---   Base-row w q            q is w columns wide, and no column is −2,147,483,648
---   Net-rows nodes m        the rows of each base's net are such rows of its width
---   Net-rows-law            so they are for every message that a plan accepts
---   Net-laws                each net has the copies put less the copies taken; the lines of a message are its nets, each at its node;
+--   moves_here i q r        a record moves copies of the row q at node i
+--   copies_put i q m        how many copies of the row q the records m put on node i
+--   copies_taken i q m      how many they take from it
+--   at_node i ls            what the change lines ls have of node i
+--   AscendingLines ls       the lines ascend by node and row, so each row of a node stands once, and no change is 0
+--   BaseRow w q             q is w columns wide, and no column is −2,147,483,648
+--   NetRows nodes m         the rows of each base's net are such rows of its width
+--   NetRowsLaw              so they are for every message that a plan accepts
+--   NetLaws                 each net has the copies put less the copies taken; the lines of a message are its nets, each at its node;
 --                           and of a message that a plan accepts: its records are those that the reader reads, at most 1,024, each of
 --                           a base; a node that is no base has no net, and the rows of a base's net are as wide as the base
 use Rattle.std.specs.Prelude.{◌≡◌, ℕ, ◌+◌, ◌≤◌, Bool, true, false, cond, not, ◌&&◌, List, [], ◌∷◌, length, pos, ◌-ℤ◌, Some, None, Ok, ◌==◌}

@@ -1,8 +1,8 @@
 -- What gathering a message leaves in a lent run of change lines.
 --
---   most-lines              how many lines the nets of a message can have: as many as it can have records
---   laid-nets len m         the nets of the movements m in a run of len lines, and blank lines behind
---   lines-told nodes bytes  what gathering answers: how many lines the nets have, or the refusal
+--   most_lines              how many lines the nets of a message can have: as many as it can have records
+--   laid_nets len m         the nets of the movements m in a run of len lines, and blank lines behind
+--   lines_told nodes bytes  what gathering answers: how many lines the nets have, or the refusal
 use Rattle.std.specs.Prelude.{ℕ, ◌-◌, List, ◌++◌, length, replicate, Ok, Err, Result}
 use Rattle.bag.specs.declared.lines.ChangeLine.{ChangeLine}
 use Rattle.bag.specs.Lines.{blank_change_line}

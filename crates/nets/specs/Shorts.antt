@@ -2,9 +2,9 @@
 --     goes_short old d       some row of the net d leaves fewer than 0 copies in the bag `old`
 --     short_from h k ds      the lowest node with such a row, where ds are the nets of the nodes from k on
 --     short_at h m           the lowest base of which the records m take too much, if there is one
---     ShortOf h m k         some row of node k comes to fewer than 0 copies: its old count and the copies put less the copies taken
+--     ShortOf h m k          some row of node k comes to fewer than 0 copies: its old count and the copies put less the copies taken
 --     Enough h m k           no row of node k does
---     ShortInCounts h m o  o is the lowest node that comes short, or none where no node does
+--     ShortInCounts h m o    o is the lowest node that comes short, or none where no node does
 use Rattle.std.specs.Prelude.{ℕ, suc, ◌<◌, ◌≤◌, Bool, cond, not, List, [], ◌∷◌, pos, ◌+ℤ◌, ◌≤ℤ◌, ◌<ℤ◌, Some, None, Option, int_le}
 use Rattle.bag.specs.Order.{Row}
 use Rattle.bag.specs.Bag.{Lines, count, every_line}

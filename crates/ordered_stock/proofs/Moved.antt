@@ -1,5 +1,5 @@
 -- What putting and taking do to an ordered stock, told from what the table did. Assumes nothing.
---     Done a b h answer      b is sound and means h, and the answer is as said
+--     Done a b h answer                    b is sound and means h, and the answer is as said
 --     put_done, take_done, take_freed      a line stored anew by a put or a take, or taken out
 --     nothing_put, nothing_taken           0 copies
 use Rattle.std.proofs.Common.{◌≡◌, ℕ, ◌+◌, ◌-◌, ◌<◌, ◌≤◌, pos, ◌+ℤ◌, neg_ℤ, Ok, Result, sym, ap, ◌∙◌, inl, inr, arith}

@@ -5,7 +5,7 @@
 --     lines_of_bag s bag        a bag as lines on shelf s, in order
 --     laid_out s bags           the bags of the shelves from s on as lines, one shelf behind the other
 --     held stock                what the stock means; its capacity is the run's length, at most 4,096
---     SoundOrdered stock       what calls keep: the table is sound, its lines are lawful, there are no more than the capacity,
+--     SoundOrdered stock        what calls keep: the table is sound, its lines are lawful, there are no more than the capacity,
 --                               and the whole run is the sixteen bags laid out in order with blanks behind
 use Rattle.std.specs.Prelude.{◌≡◌, ℕ, zero, suc, ◌-◌, min, cond, List, [], ◌∷◌, ◌++◌, replicate, pos, ◌==◌, unsigned_abs}
 use Rattle.std.specs.List.{AllByRecursion}

@@ -2,9 +2,9 @@
 --     sum_of h ps              the holding h with the changes of the lines ps
 --     with_change_of h p       the holding h with the change of one line
 --     Accepts h p              the change of p leaves a lawful holding
---     LowKey k                the key's shelf is one of 0 to 15
+--     LowKey k                 the key's shelf is one of 0 to 15
 --     meaning_of stock b       what the book b over a stock means
---     SoundBook stock b       what a book keeps between its calls
+--     SoundBook stock b        what a book keeps between its calls
 --     gain_of, loss_of s r n   what putting and what taking n copies of the row r on shelf s changes
 --     Netted stock b p c       c has the stock below as b has it, and the line p netted into the pending lines; a line netted to 0 is gone
 --     SettledFirst stock b p c      the stock below c means all that b means, and p alone is pending
@@ -15,9 +15,9 @@
 --     Settled stock b c        c means what b does, and nothing is pending
 --     Placed stock b p c       c means what b does, and has a place for the line p
 --     Noted stock b p c        c means what b does with the change of p
---     SettledBelow stock b c        the stock below c alone means what b does, too, and nothing is pending
---     PlacedBelow stock b p c       c is b itself where that has a place for the line p, else settled
---     NotedBelow stock b p c        the change of p was netted in, or settled first
+--     SettledBelow stock b c   the stock below c alone means what b does, too, and nothing is pending
+--     PlacedBelow stock b p c  c is b itself where that has a place for the line p, else settled
+--     NotedBelow stock b p c   the change of p was netted in, or settled first
 use Rattle.std.specs.Prelude.{◌≡◌, ℕ, ◌≤◌, true, false, List, [], ◌∷◌, pos, ◌+ℤ◌, neg_ℤ, ◌≤ℤ◌, Ok, Err, Result}
 use Rattle.bag.specs.Order.{Row}
 use Rattle.bag.specs.Bag.{is_zero, count, EachRow}

@@ -1,7 +1,7 @@
 -- How a book finds the next row: it steps over the rows below and the pending lines together. It describes how a book works, not what
 -- it means. Assumes nothing.
 --     earlier_of a b             the smaller of two rows, where there are two
---     IsCandidate f g r found   the smallest row greater than r where f or g is not 0, or none
+--     IsCandidate f g r found    the smallest row greater than r where f or g is not 0, or none
 use Rattle.std.specs.Prelude.{◌≡◌, ℕ, false, ◌⊎◌, ℤ, pos, Some, None, Option}
 use Rattle.std.specs.declared.cmp.Ordering.TheVariants.{Less}
 use Rattle.bag.specs.Order.{Row, row_order}

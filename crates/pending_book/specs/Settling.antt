@@ -2,8 +2,8 @@
 -- means. Assumes nothing.
 --     losses ps, gains ps      what the lines take, and what they put, by keys
 --     Moved h k d              the counts of k are those of h with the changes d
---     TakesLine h p           h has the copies that p takes
---     PutsLine h p            h has room for the copies that p puts
+--     TakesLine h p            h has the copies that p takes
+--     PutsLine h p             h has room for the copies that p puts
 --     Takeable h ps            h has the copies that each line takes, and no two lines have one key
 --     Puttable h ps aim        the lines lead from h to the lawful holding `aim` by puts alone
 use Rattle.std.specs.Prelude.{◌≡◌, ℕ, ◌≤◌, false, List, map, pos, ◌+ℤ◌, neg_ℤ, ◌≤ℤ◌, unsigned_abs}

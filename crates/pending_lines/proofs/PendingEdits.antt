@@ -1,5 +1,5 @@
 -- The lines in use after one was put in or taken out by place. Assumes nothing.
---     front_again       as many places as there are lines hold the lines
+--     front_again                     as many places as there are lines hold the lines
 --     front_opened, front_closed      of a run that is `opened` or `closed`
 --     take_set_inside                 a line written in place
 --     changed_gone, changed_kept      what a change made anew makes of the changes

@@ -9,7 +9,7 @@
 --     held p                   the lines in use
 --     changes p                their changes, by keys
 --     count_at p s r           the change of the row r on shelf s
---     IsCount z               z is from 0 to 65,535
+--     IsCount z                z is from 0 to 65,535
 --     rank xs k                how many changes stand before the first key that is not less than k
 --     has_key_at xs i k        the change at place i has the key k
 --     Ordered p                keys ascend, no change is 0, and there are at most 64 lines
@@ -17,7 +17,7 @@
 --     with_change p xs         the change of the line p added to the others
 --     Addable xs p             the line's change is not 0, and added to its key's change it is a signed 32-bit number
 --     changed_at xs i n        n more at place i; a change that comes to 0 is gone
---     IsNext f r answer       the smallest row greater than r where f is not 0, with its number, or none
+--     IsNext f r answer        the smallest row greater than r where f is not 0, with its number, or none
 use Rattle.std.specs.Prelude.{◌≡◌, ℕ, suc, ◌≤◌, Bool, false, not, ◌&&◌, ◌||◌, List, [], ◌∷◌, ◌++◌, map, length, take, drop, replicate, ℤ, pos, ◌+ℤ◌, ◌≤ℤ◌, Some, None, Option, FitsSigned, nat_lt, slice_index_or}
 use Rattle.std.specs.declared.cmp.Ordering.TheVariants.{Less}
 use Rattle.std.specs.Int.{w32}

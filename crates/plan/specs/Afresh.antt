@@ -3,8 +3,8 @@
 --   is_base        the node is a base
 --   board          the bag of a lower node
 --   pairs_of       the first n pairs of columns, as numbers
---   board-of       the bag of a node, from its own net and the lower boards; ws are the widths of the lower nodes
---   afresh-from    the boards of further nodes behind boards bs of the widths ws
+--   board_of       the bag of a node, from its own net and the lower boards; ws are the widths of the lower nodes
+--   afresh_from    the boards of further nodes behind boards bs of the widths ws
 --   afresh         the boards of all nodes; net gives each base the copies put less the copies taken
 use Rattle.std.specs.Prelude.{ℕ, Bool, true, false, List, [], ◌∷◌, ◌++◌, map, length, take, slice_index, slice_index_or}
 use Rattle.bag.specs.Bag.{Lines}

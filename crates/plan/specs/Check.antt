@@ -1,7 +1,7 @@
 -- What plan bytes say, for a measure that shows k columns: the nodes, or the first fault.
 -- Fields are read left to right and the first bad one decides; the node's width is the last to be checked.
 --
---   equal-sides   the numbers of two lower nodes with rows of one width, and the bytes behind them
+--   equal_sides   the numbers of two lower nodes with rows of one width, and the bytes behind them
 --   base, keep, pick, pair, both, less, total   a node behind its operator; ws are the widths of the lower nodes
 --   behind        a node behind its operator's byte, whichever it is
 --   node          a node: the operator's byte and its fields

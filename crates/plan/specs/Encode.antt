@@ -1,9 +1,9 @@
 -- The bytes of a plan's nodes.
 --
---   relation-number   0 <, 1 ≤, 2 =, 3 ≠, 4 ≥, 5 >
---   operand-bytes     kind 0 and a number, or kind 1 and a column
+--   relation_number   0 <, 1 ≤, 2 =, 3 ≠, 4 ≥, 5 >
+--   operand_bytes     kind 0 and a number, or kind 1 and a column
 --   encode            a node's bytes: its operator, then its fields
---   encode-all        the bytes of all nodes, one behind the other
+--   encode_all        the bytes of all nodes, one behind the other
 use Rattle.std.specs.Prelude.{ℕ, List, [], ◌∷◌, take}
 use Rattle.std.specs.List.{flat_map}
 use Rattle.bag.specs.Bytes.{in_four}

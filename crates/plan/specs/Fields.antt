@@ -1,6 +1,6 @@
 -- One field read from bytes: its value and the bytes behind it, or the number of the cause.
 --
---   missing, outside, not_lower, past-width, bad-width, bad-count   the numbers of the causes, 1 to 6
+--   missing, outside, not_lower, past_width, bad_width, bad_count   the numbers of the causes, 1 to 6
 --   Read          what was read and the bytes behind it, or the number of the cause
 --   then          goes on with what was read; the first bad field decides
 --   when          a value under a test, else the cause
@@ -15,7 +15,7 @@
 --   padded        a list filled up with blanks to a size
 --   listed        what was read, filled up with blanks
 --   columns       n columns, in eight places
---   column-pair   a column of left rows and a column of right rows; no-pair is the blank
+--   column_pair   a column of left rows and a column of right rows; `no_pair` is the blank
 --   pairs         n of them, in four places
 use Rattle.std.specs.Prelude.{ℕ, zero, suc, ◌+◌, ◌-◌, ◌*◌, Bool, true, false, cond, ◌&&◌, List, [], ◌∷◌, ◌++◌, length, replicate, Ok, Err, Result, ◌==◌, nat_le, nat_lt}
 use Rattle.std.proofs.Common.{to_z}

@@ -2,16 +2,16 @@
 --
 --   width          how wide a node's rows are; ws are the widths of the lower nodes, k columns are shown by the measure
 --   every          a test holds of each element
---   list-fits      a list of `size` places: the first n pass a test, the others are blank
---   columns-fit    eight places, the first n columns of rows w wide, the others 0
---   pairs-fit      four places, the first n pairs of a column of left rows and a column of right rows, the others 0
---   operand-fits   a number, or a column of rows w wide
+--   list_fits      a list of `size` places: the first n pass a test, the others are blank
+--   columns_fit    eight places, the first n columns of rows w wide, the others 0
+--   pairs_fit      four places, the first n pairs of a column of left rows and a column of right rows, the others 0
+--   operand_fits   a number, or a column of rows w wide
 --   fits           a node names lower nodes, its columns lie below their widths, its own width is at most 8
 --   widths         the widths of nodes that follow nodes of the widths ws
 --   lawful         each node of a list fits over those before it
---   One-to-eight   what a width is in a lawful plan (WidthsOneToEight, a law)
---   In-range       a constant is a signed number of 32 bits: what the type Node holds
---   Lawful-plan    1 to 16 nodes that are lawful, under a measure that shows k columns
+--   OneToEight     what a width is in a lawful plan (WidthsOneToEight, a law)
+--   InRange        a constant is a signed number of 32 bits: what the type Node holds
+--   LawfulPlan     1 to 16 nodes that are lawful, under a measure that shows k columns
 use Rattle.std.specs.Prelude.{◌≡◌, ℕ, ◌+◌, ◌≤◌, Bool, true, ◌&&◌, ltb, List, [], ◌∷◌, ◌++◌, length, take, drop, FitsSigned, ◌==◌, nat_eq, nat_le, nat_lt, slice_index}
 use Rattle.std.specs.Int.{w32}
 use Rattle.std.specs.List.{AllByRecursion}

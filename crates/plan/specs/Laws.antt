@@ -1,22 +1,22 @@
 -- Which bytes are plans, in terms of nodes and not of reading.
 --
---   Accepted-are-encodings   the bytes accepted are exactly the encodings of lawful plans
---   One-to-one               two lawful plans with equal bytes are equal
---   Broken-at                the bytes begin with whole lawful nodes, as many as the refusal's node says, and where there are
+--   AcceptedAreEncodings     the bytes accepted are exactly the encodings of lawful plans
+--   OneToOne                 two lawful plans with equal bytes are equal
+--   BrokenAt                 the bytes begin with whole lawful nodes, as many as the refusal's node says, and where there are
 --                            fewer than 16, no lawful node follows them; where there are 16, some byte does
---   Refused-where-broken     every refusal has the number 12, and the bytes are broken at its node
+--   RefusedWhereBroken       every refusal has the number 12, and the bytes are broken at its node
 --
 -- A contract sees bytes as numbers of any size: `Bytes` is asked only where a number past 255 would be read as a node that encodes
 -- to other bytes.
 --
---   Encodings-are-accepted   the encoding of a lawful plan is bytes, and checking it gives that plan back
---   One-encoding             a plan has one encoding: bytes that are accepted as the same plan are equal
---   Breaks-at                as Broken-at, and something is left behind the whole nodes, unless there is no byte at all
---   Refused-there            every refusal is that of a fault: the number 12, a node and the number of a cause; the bytes break there
---   Broken-are-refused       bytes that break at a node are refused there
---   Plan-or-broken           what an answer of checking means: the nodes of the plan that the bytes encode, or where they break
---   Never-both               neither accepted bytes nor the encoding of a lawful plan break anywhere
---   Widths-one-to-eight      the rows of every node of a lawful plan are 1 to 8 wide
+--   EncodingsAreAccepted     the encoding of a lawful plan is bytes, and checking it gives that plan back
+--   OneEncoding              a plan has one encoding: bytes that are accepted as the same plan are equal
+--   BreaksAt                 as `BrokenAt`, and something is left behind the whole nodes, unless there is no byte at all
+--   RefusedThere             every refusal is that of a fault: the number 12, a node and the number of a cause; the bytes break there
+--   BrokenAreRefused         bytes that break at a node are refused there
+--   PlanOrBroken             what an answer of checking means: the nodes of the plan that the bytes encode, or where they break
+--   NeverBoth                neither accepted bytes nor the encoding of a lawful plan break anywhere
+--   WidthsOneToEight         the rows of every node of a lawful plan are 1 to 8 wide
 use Rattle.std.specs.Prelude.{◌≡◌, ℕ, ◌<◌, ◌≤◌, true, List, [], ◌++◌, length, Ok, Err, Result, ◌≢◌, slice_index}
 use Rattle.std.specs.List.{AllByRecursion}
 use Rattle.plan.specs.declared.fault.PlanFault.{PlanFault}

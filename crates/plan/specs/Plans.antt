@@ -1,7 +1,7 @@
 -- What a plan holds.
 --
---   nodes-of    its nodes, in order
---   widths-of   the widths of their rows
+--   nodes_of    its nodes, in order
+--   widths_of   the widths of their rows
 --   listed      an answer with the plan's nodes in the place of the plan
 use Rattle.std.specs.Prelude.{ℕ, List, [], take, Ok, Err, Result}
 use Rattle.plan.specs.declared.node.Node.{Node}

@@ -2,11 +2,11 @@
 --
 --   Refusal        a refusal's number, and its place: a node and the number of the cause there
 --   refused        refusal 12 at a node for a cause
---   cause-number   Missing 1, Value 2, Lower 3, Column 4, Width 5, Nodes 6
---   fault-at       the fault of a cause at a node
---   plan-refusal   number and place of each fault
---   plan-told      a checker's answer with its fault as number and place
---   plan-text      what is printed of a fault: `plan refused 12 at`, the node and the cause
+--   cause_number   Missing 1, Value 2, Lower 3, Column 4, Width 5, Nodes 6
+--   fault_at       the fault of a cause at a node
+--   plan_refusal   number and place of each fault
+--   plan_told      a checker's answer with its fault as number and place
+--   plan_text      what is printed of a fault: `plan refused 12 at`, the node and the cause
 use Rattle.std.specs.Prelude.{ℕ, List, ◌++◌, Ok, Err, Result, codes, decimal}
 use Rattle.plan.specs.declared.fault.Cause.{Cause}
 use Rattle.plan.specs.declared.fault.Cause.TheVariants.{Missing, Value, Lower, Column, Width, Nodes}

@@ -1,10 +1,10 @@
 -- What the users of a plan may count on at its node i; ws are the widths of all its nodes, k columns are shown by the measure.
 --
---   Columns-below   the first n columns of a list lie below a width
---   Operand-below   an operand that is a column lies below a width
---   Base-sound, Keep-sound, Pick-sound, Pair-sound, Sides-sound, Total-sound   the facts of one operator
+--   ColumnsBelow    the first n columns of a list lie below a width
+--   OperandBelow    an operand that is a column lies below a width
+--   BaseSound, KeepSound, PickSound, PairSound, SidesSound, TotalSound         the facts of one operator
 --   Sound           the facts of a node
---   Keep-handed, Pick-handed, Pair-handed, Sides-handed, Total-handed   more facts of one operator
+--   KeepHanded, PickHanded, PairHanded, SidesHanded, TotalHanded        more facts of one operator
 --   Handed          what more is handed to the users with a node: `wide` of the nodes that it names: their rows are 1 to 8 wide;
 --                   `places` of its list: how many there are, of which the first n count; of a base, its own width is 1 to 8
 use Rattle.std.specs.Prelude.{◌≡◌, ℕ, ◌+◌, ◌<◌, ◌≤◌, List, length, slice_index, slice_index_or}

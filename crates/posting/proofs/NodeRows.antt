@@ -1,5 +1,5 @@
 -- What a node's operator gives over lawful boards is a bag of lawful rows. Assumes nothing.
---     LowerBoard w b      a bag of lawful rows, w wide, whose counts fit, and which is no longer than two sheets
+--     LowerBoard w b       a bag of lawful rows, w wide, whose counts fit, and which is no longer than two sheets
 --     node_bag             the board of a node is a bag
 --     node_rows            and its rows are lawful, and as wide as the node
 use Rattle.std.proofs.Common.{◌≡◌, ℕ, ◌+◌, ◌*◌, ◌<◌, ◌≤◌, Bool, true, false, cond, List, [], ◌∷◌, length, get_or, take, ℤ, pos, negsuc, ◌≤ℤ◌, sym, refl, subst, mul-le-mul_left, arith}

@@ -4,7 +4,7 @@
 --     new_board            its new board is what the operator gives over the new boards
 --     node_setting         so the setting of its operator is met
 --     lower_run            the lines of a lower node stand where the filling says
---     AtNode, at_node     all of it for the operator that the plan handed out, and the way back from its contract
+--     AtNode, at_node      all of it for the operator that the plan handed out, and the way back from its contract
 use Rattle.std.proofs.Common.{◌≡◌, ℕ, ◌+◌, ◌<◌, ◌≤◌, true, List, [], length, get_or, take, Some, Option, Result, sym, refl, ap, ◌∙◌, subst, ap₂, arith}
 use Rattle.std.specs.List.{slice_get}
 use Rattle.std.proofs.lemmas.Option.{slice_get-get_or}

@@ -3,7 +3,7 @@
 --     judged M old new room xs       node by node from 0 upwards: Over if a new count is above 65,535, Wide if a group does not fit, Paper
 --                                    if the lines up to this node outnumber the room; else how many lines there are
 --     judged_from .. k used xs       the same from node k on, where `used` lines are those of the nodes before
---     OfBase w net move net'        the net of a base before a posting and after it, and the change that leads there
+--     OfBase w net move net'         the net of a base before a posting and after it, and the change that leads there
 --     Ready M xs ws h moves net net' what a posting starts from: the stock has the boards of the nodes xs over the nets `net`, every
 --                                    group of them fits, and `moves` leads from the nets `net` to `net'`
 --     Worked M xs h net' room sheet r      the answer, and the sheet that has the differences of all boards where nothing was refused

@@ -1,7 +1,7 @@
 -- What a holding is after some lines. Assumes nothing.
 --     moved_none, moved_then, moved_more      after none, after some and then others, after one more
---     moved_one, moved_still      after more copies of a row, and after a line that has nothing to settle
---     accepted_take, accepted_put      what a call leaves that is not refused
+--     moved_one, moved_still                  after more copies of a row, and after a line that has nothing to settle
+--     accepted_take, accepted_put             what a call leaves that is not refused
 use Rattle.std.proofs.Common.{◌≡◌, ℕ, ◌+◌, ◌<◌, ◌≤◌, false, List, [], ◌∷◌, ◌++◌, map, length, get_or, take, ℤ, pos, ◌+ℤ◌, neg_ℤ, sym, refl, ap, ◌∙◌, subst, arith}
 use lib.IntN.{+ℤ_idr}
 use Rattle.std.proofs.lemmas.List.{take_more, map-append}

@@ -1,8 +1,8 @@
 -- What a sheet of changes and new boards have to do with each other. Assumes nothing.
 --     differences olds news        the change of each node, as long as it has an old and a new bag
 --     replaced h news              h with the new bags on the first shelves; the shelves behind them stay as they were
---     NewBoards news              at most sixteen bags that shelves can hold
---     SheetLeadsToNewBoards    the lines of the differences lead from the old bags to the new
+--     NewBoards news               at most sixteen bags that shelves can hold
+--     SheetLeadsToNewBoards        the lines of the differences lead from the old bags to the new
 use Rattle.std.specs.Prelude.{ℕ, ◌≤◌, List, [], ◌∷◌, ◌++◌, length, drop, pos, ◌≤ℤ◌, slice_index_or}
 use Rattle.std.specs.List.{AllByRecursion}
 use Rattle.bag.specs.Order.{Row}

@@ -1,6 +1,6 @@
 -- When change lines lead from one holding to another; the node of a line is the shelf that it changes. Assumes nothing.
 --     LeadsInCounts h lines aim      each count of aim is that of h with the change that the lines have for it
---     Leads h lines aim                the same, where aim is what a stock can hold
+--     Leads h lines aim              the same, where aim is what a stock can hold
 use Rattle.std.specs.Prelude.{◌≡◌, ℕ, ◌≤◌, List, length, ◌+ℤ◌}
 use Rattle.std.specs.List.{AllByRecursion}
 use Rattle.bag.specs.declared.lines.ChangeLine.{ChangeLine}

@@ -2,8 +2,8 @@
 -- Assumes nothing.
 --     losses lines, gains lines      what the lines take, and what they put, by keys
 --     Moved h k d              the counts of k are those of h with the changes d
---     TakesLine h l           h has the copies that l takes
---     PutsLine h l            h has room for the copies that l puts
+--     TakesLine h l            h has the copies that l takes
+--     PutsLine h l             h has room for the copies that l puts
 --     Takeable h lines         h has the copies that each line takes, and no two lines have one key
 --     Puttable h lines aim     the lines lead from h to the lawful holding `aim` by puts alone
 use Rattle.std.specs.Prelude.{◌≡◌, ℕ, ◌≤◌, false, List, map, pos, ◌+ℤ◌, neg_ℤ, ◌≤ℤ◌, unsigned_abs}

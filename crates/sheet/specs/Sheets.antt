@@ -5,7 +5,7 @@
 --     laid len room es         the first lines of es, as many as there is room for, on a sheet of len lines, and blank lines behind
 --     tally room es            how many lines there are, or one more than there is room for
 --     OnSheet room sheet used es      the lines es stand on the sheet as far as there is room, and `used` is their tally
---     RunOf es from to c d    in es, the places from `from` up to `to` have the change d of node c
+--     RunOf es from to c d     in es, the places from `from` up to `to` have the change d of node c
 use Rattle.std.specs.Prelude.{◌≡◌, ℕ, suc, ◌-◌, ◌≤◌, min, List, [], ◌∷◌, ◌++◌, map, length, take, drop, replicate}
 use Rattle.bag.specs.declared.lines.ChangeLine.{ChangeLine}
 use Rattle.bag.specs.Bag.{Line, Lines}

@@ -1,7 +1,7 @@
 -- When puts and takes are accepted, and what they leave then, for every lawful holding. Assumes nothing.
 --     count_is_copies      a count in a lawful holding is not negative
 --     none_more            0 copies more change nothing
---     RoomFor s r h       the row is there, or the lines do not equal the capacity
+--     RoomFor s r h        the row is there, or the lines do not equal the capacity
 --     room_from            it is so where the test of both fails
 --     put_accepted, take_accepted        the answer is Ok
 --     left_by_put, left_by_take          and the copies are there or gone

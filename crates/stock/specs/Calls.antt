@@ -2,7 +2,7 @@
 --     Answer                     a number, a row with its count or none, or the outcome of a put or a take
 --     call_answer, after_call    what one call is answered and leaves
 --     answers, after_calls       the same of a list of calls, made one after the other
---     StocksAlike               holdings that are equal answer equal calls alike and stay equal; the capacity never changes
+--     StocksAlike                holdings that are equal answer equal calls alike and stay equal; the capacity never changes
 use Rattle.std.specs.Prelude.{◌≡◌, ℕ, List, [], ◌∷◌, Option, Result}
 use Rattle.bag.specs.Order.{Row}
 use Rattle.bag.specs.Refusal.{Refusal}

@@ -8,8 +8,8 @@
 --     put_answer, after_put          what putting n copies of r on shelf s is answered, and what it leaves
 --     take_answer, after_take        the same of taking
 --     empty_holding c                sixteen empty shelves
---     LawfulLine l                  a line on one of sixteen shelves, of a row, with a count from 1 to 65,535
---     LawfulHolding h               sixteen bags of such rows, counts up to 65,535, no more lines than the capacity, and that at most 4,096
+--     LawfulLine l                   a line on one of sixteen shelves, of a row, with a count from 1 to 65,535
+--     LawfulHolding h                sixteen bags of such rows, counts up to 65,535, no more lines than the capacity, and that at most 4,096
 use Rattle.std.specs.Prelude.{◌≡◌, ℕ, ◌+◌, ◌≤◌, Bool, cond, ◌&&◌, List, [], ◌∷◌, length, replicate, ℤ, pos, neg_ℤ, Ok, Err, Option, Result, ◌==◌, nat_lt, slice_index_or, slice_set, unsigned_abs}
 use Rattle.std.specs.Option.{option_map}
 use Rattle.bag.specs.declared.lines.StockLine.{StockLine}

@@ -1,8 +1,8 @@
 -- What the place of a key says of an ascending list. Assumes nothing.
 --     AbsentAt k xs i       no entry has k's key, and i entries have a smaller one
 --     PresentAt k xs i      the entry at place i has k's key
---     absent, present        what the words of `Entries` give there
---     located                every key is one of the two
+--     absent, present       what the words of `Entries` give there
+--     located               every key is one of the two
 use Rattle.std.proofs.Common.{◌≡◌, ℕ, zero, suc, ◌<◌, ◌≤◌, true, false, ◌⊎◌, List, [], ◌∷◌, ◌++◌, length, get_or, take, drop, set, Some, None, Ordering, Less, Equal, Greater, sym, refl, ap, ◌∙◌, subst, inl, inr, ⊎_elim, arith}
 use Rattle.std.specs.Ordering.{ordering_reverse}
 use Rattle.std.specs.List.Sorted.{IsStrictlySortedBy}

@@ -3,8 +3,8 @@
 --     capacity t                  how many entries there is place for: the length of the run
 --     Holds blank t xs            the entries are xs, and the whole run is xs with blanks behind
 --     Sound order blank t         the keys of the entries ascend, and the whole run is the entries with blanks behind
---     HoldsRun, SoundRun        the same of a run and the number of its entries
---     SameRun s t                t stands over the run that s stands over, as long as it was
+--     HoldsRun, SoundRun          the same of a run and the number of its entries
+--     SameRun s t                 t stands over the run that s stands over, as long as it was
 --     lacks_room order n e xs     adding e to xs wants a place more than the n that there are
 --     add_answer order n e xs     what adding e to xs in a run of n places is answered
 use Rattle.std.specs.Prelude.{◌≡◌, ℕ, ◌-◌, ◌≤◌, Bool, cond, not, ◌&&◌, List, ◌++◌, length, take, replicate, Some, None, Option, ◌==◌}

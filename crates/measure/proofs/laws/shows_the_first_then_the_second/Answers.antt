@@ -1,6 +1,5 @@
-use Rattle.std.proofs.Common.{arith}
 use Rattle.measure.specs.SideBySideLaws.{columns_are}
 use Rattle.measure.proofs.laws.shows_the_first_then_the_second.Goals as goal
 
 pub returns : goal.returns
-returns g c = λ room. columns_are g.A.Measure.model g.B.Measure.model g.met.A.Measure.lawful g.met.B.Measure.lawful (omega arith)
+returns g c = columns_are g.A.Measure.model g.B.Measure.model g.met.A.Measure.lawful g.met.B.Measure.lawful
