@@ -39,20 +39,17 @@ returns-then-old-gt0 g c =
     let low : s ≤ 15 = omega arith in
     let M = meaning_of stock b in
     let line = c.gain_line.ensures in
-    let noted = λ (o : SoundBook stock b).
+    let kept_by = λ (o : SoundBook stock b). let is = c.sum_at-old.ensures o in lines_kept M s r n o.lawful low some (omega (arith, is)) in
+    let accepted = λ (o : SoundBook stock b).
     let is = c.sum_at-old.ensures o in
-    let kept = lines_kept M s r n o.lawful low some (omega (arith, is)) in
+    let kept = kept_by o in
     let room = o.lawful.room in
-    c.note.ensures.after o
-    (subst (Accepts M) (sym line) (accepts_gain M s r n o.lawful low some c.read_columns.ensures (omega (arith, is)) (omega (arith, kept, room))))
-    (o.counted ∙ sym kept ∙ ap (λ (p : PendingLine). lines_of (with_change_of M p)) (sym line)) in
-    let under = λ (o : SoundBook stock b).
-    let is = c.sum_at-old.ensures o in
-    let kept = lines_kept M s r n o.lawful low some (omega (arith, is)) in
-    let room = o.lawful.room in
-    c.note.ensures.below o
-    (subst (Accepts M) (sym line) (accepts_gain M s r n o.lawful low some c.read_columns.ensures (omega (arith, is)) (omega (arith, kept, room))))
-    (o.counted ∙ sym kept ∙ ap (λ (p : PendingLine). lines_of (with_change_of M p)) (sym line)) in
+    subst (Accepts M) (sym line) (accepts_gain M s r n o.lawful low some c.read_columns.ensures (omega (arith, is)) (omega (arith, kept, room))) in
+    let counted_by = λ (o : SoundBook stock b).
+    let kept = kept_by o in
+    o.counted ∙ sym kept ∙ ap (λ (p : PendingLine). lines_of (with_change_of M p)) (sym line) in
+    let noted = λ (o : SoundBook stock b). c.note.ensures.after o (accepted o) (counted_by o) in
+    let under = λ (o : SoundBook stock b). c.note.ensures.below o (accepted o) (counted_by o) in
     record {
       memory = c.note.ensures.memory;
       sound = λ (o : SoundBook stock b). (noted o).sound;
@@ -101,20 +98,17 @@ returns g c =
     let counted = o.counted in
     let f : lines_of M < M.capacity = omega (arith, cap, counted) in
     f in
-    let noted = λ (o : SoundBook stock b).
+    let more_by = λ (o : SoundBook stock b). let is = c.sum_at-old.ensures o in lines_more M s r n o.lawful low some (omega (arith, is)) in
+    let accepted = λ (o : SoundBook stock b).
     let is = c.sum_at-old.ensures o in
-    let more = lines_more M s r n o.lawful low some (omega (arith, is)) in
+    let more = more_by o in
     let room = free o in
-    c.note-2.ensures.after o
-    (subst (Accepts M) (sym line) (accepts_gain M s r n o.lawful low some c.read_columns.ensures (omega (arith, is)) (omega (arith, more, room))))
-    (ap (λ m. m + 1) o.counted ∙ sym more ∙ ap (λ (p : PendingLine). lines_of (with_change_of M p)) (sym line)) in
-    let under = λ (o : SoundBook stock b).
-    let is = c.sum_at-old.ensures o in
-    let more = lines_more M s r n o.lawful low some (omega (arith, is)) in
-    let room = free o in
-    c.note-2.ensures.below o
-    (subst (Accepts M) (sym line) (accepts_gain M s r n o.lawful low some c.read_columns.ensures (omega (arith, is)) (omega (arith, more, room))))
-    (ap (λ m. m + 1) o.counted ∙ sym more ∙ ap (λ (p : PendingLine). lines_of (with_change_of M p)) (sym line)) in
+    subst (Accepts M) (sym line) (accepts_gain M s r n o.lawful low some c.read_columns.ensures (omega (arith, is)) (omega (arith, more, room))) in
+    let counted_by = λ (o : SoundBook stock b).
+    let more = more_by o in
+    ap (λ m. m + 1) o.counted ∙ sym more ∙ ap (λ (p : PendingLine). lines_of (with_change_of M p)) (sym line) in
+    let noted = λ (o : SoundBook stock b). c.note-2.ensures.after o (accepted o) (counted_by o) in
+    let under = λ (o : SoundBook stock b). c.note-2.ensures.below o (accepted o) (counted_by o) in
     record {
       memory = c.note-2.ensures.memory;
       sound = λ (o : SoundBook stock b). (noted o).sound;

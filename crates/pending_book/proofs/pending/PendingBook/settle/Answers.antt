@@ -14,21 +14,22 @@ returns g c =
     let mid = c.take_all.new.below in
     let end = c.put_all.new.below in
     let empty = c.new-self.ensures.empty in
+    let ending = λ (o : SoundBook stock b). c.put_all.ensures.sound (c.take_all.ensures.sound o.below) in
+    let there = λ (o : SoundBook stock b).
+    let h = stock.meaning b.below in
+    let ps = held b.pending in
+    let law = stock.lawful b.below o.below in
+    let sound-mid = c.take_all.ensures.sound o.below in
+    let took = c.take_all.ensures.after o.below (takeable_from h ps law o.lawful o.ordered.canonical o.shelves) in
+    let gave = c.put_all.ensures.after (sum_of h ps) sound-mid (puttable_from h ps law o.lawful o.ordered.canonical o.shelves (stock.meaning mid) took) in
+    arrived h ps law o.lawful o.ordered.canonical o.shelves (stock.meaning mid) (stock.meaning end) took gave (stock.lawful end (ending o)) in
     record {
       memory = c.put_all.ensures.memory ∙ c.take_all.ensures.memory;
       after = λ (o : SoundBook stock b).
-          let h = stock.meaning b.below in
-          let ps = held b.pending in
-          let law = stock.lawful b.below o.below in
-          let sound-mid = c.take_all.ensures.sound o.below in
-          let sound-end = c.put_all.ensures.sound sound-mid in
-          let took = c.take_all.ensures.after o.below (takeable_from h ps law o.lawful o.ordered.canonical o.shelves) in
-          let gave = c.put_all.ensures.after (sum_of h ps) sound-mid (puttable_from h ps law o.lawful o.ordered.canonical o.shelves (stock.meaning mid) took) in
-          let there = arrived h ps law o.lawful o.ordered.canonical o.shelves (stock.meaning mid) (stock.meaning end) took gave (stock.lawful end sound-end) in
-          let same : sum_of (stock.meaning end) (held c.new-self.result) ≡ sum_of h ps = ap (sum_of (stock.meaning end)) empty ∙ there in
+          let same : sum_of (stock.meaning end) (held c.new-self.result) ≡ sum_of (stock.meaning b.below) (held b.pending) = ap (sum_of (stock.meaning end)) empty ∙ there o in
           record {
             sound = record {
-              below = sound-end;
+              below = ending o;
               ordered = c.new-self.ensures.sound;
               shelves = subst (λ qs. EachRow LowKey (map keyed qs)) (sym empty) tt;
               lawful = subst LawfulHolding (sym same) o.lawful;
@@ -38,13 +39,5 @@ returns g c =
             empty = empty;
           };
       below = λ (o : SoundBook stock b).
-          let h = stock.meaning b.below in
-          let ps = held b.pending in
-          let law = stock.lawful b.below o.below in
-          let sound-mid = c.take_all.ensures.sound o.below in
-          let sound-end = c.put_all.ensures.sound sound-mid in
-          let took = c.take_all.ensures.after o.below (takeable_from h ps law o.lawful o.ordered.canonical o.shelves) in
-          let gave = c.put_all.ensures.after (sum_of h ps) sound-mid (puttable_from h ps law o.lawful o.ordered.canonical o.shelves (stock.meaning mid) took) in
-          let there = arrived h ps law o.lawful o.ordered.canonical o.shelves (stock.meaning mid) (stock.meaning end) took gave (stock.lawful end sound-end) in
-          record { below = there; empty = empty };
+          record { below = there o; empty = empty };
     }

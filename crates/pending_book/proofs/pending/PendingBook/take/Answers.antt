@@ -36,20 +36,17 @@ returns-then-old-n-2 g c =
     let low : s ≤ 15 = omega arith in
     let M = meaning_of stock b in
     let line = c.loss_line.ensures in
-    let noted = λ (o : SoundBook stock b).
+    let kept_by = λ (o : SoundBook stock b). let is = c.sum_at-old.ensures o in lines_left M s r n o.lawful low some (omega (arith, is)) in
+    let accepted = λ (o : SoundBook stock b).
     let is = c.sum_at-old.ensures o in
-    let kept = lines_left M s r n o.lawful low some (omega (arith, is)) in
+    let kept = kept_by o in
     let room = o.lawful.room in
-    c.note.ensures.after o
-    (subst (Accepts M) (sym line) (accepts_loss M s r n o.lawful low some c.read_columns.ensures (omega (arith, is)) (omega (arith, kept, room))))
-    (o.counted ∙ sym kept ∙ ap (λ (p : PendingLine). lines_of (with_change_of M p)) (sym line)) in
-    let under = λ (o : SoundBook stock b).
-    let is = c.sum_at-old.ensures o in
-    let kept = lines_left M s r n o.lawful low some (omega (arith, is)) in
-    let room = o.lawful.room in
-    c.note.ensures.below o
-    (subst (Accepts M) (sym line) (accepts_loss M s r n o.lawful low some c.read_columns.ensures (omega (arith, is)) (omega (arith, kept, room))))
-    (o.counted ∙ sym kept ∙ ap (λ (p : PendingLine). lines_of (with_change_of M p)) (sym line)) in
+    subst (Accepts M) (sym line) (accepts_loss M s r n o.lawful low some c.read_columns.ensures (omega (arith, is)) (omega (arith, kept, room))) in
+    let counted_by = λ (o : SoundBook stock b).
+    let kept = kept_by o in
+    o.counted ∙ sym kept ∙ ap (λ (p : PendingLine). lines_of (with_change_of M p)) (sym line) in
+    let noted = λ (o : SoundBook stock b). c.note.ensures.after o (accepted o) (counted_by o) in
+    let under = λ (o : SoundBook stock b). c.note.ensures.below o (accepted o) (counted_by o) in
     record {
       memory = c.note.ensures.memory;
       sound = λ (o : SoundBook stock b). (noted o).sound;
@@ -69,24 +66,19 @@ returns g c =
     let low : s ≤ 15 = omega arith in
     let M = meaning_of stock b in
     let line = c.loss_line-2.ensures in
-    let noted = λ (o : SoundBook stock b).
+    let less_by = λ (o : SoundBook stock b). let is = c.sum_at-old.ensures o in lines_less M s r n o.lawful low some (omega (arith, is)) in
+    let accepted = λ (o : SoundBook stock b).
     let is = c.sum_at-old.ensures o in
-    let less = lines_less M s r n o.lawful low some (omega (arith, is)) in
+    let less = less_by o in
     let room = o.lawful.room in
+    subst (Accepts M) (sym line) (accepts_loss M s r n o.lawful low some c.read_columns.ensures (omega (arith, is)) (omega (arith, less, room))) in
+    let counted_by = λ (o : SoundBook stock b).
+    let less = less_by o in
     let counted = o.counted in
     let down = c.saturating_sub.ensures in
-    c.note-2.ensures.after o
-    (subst (Accepts M) (sym line) (accepts_loss M s r n o.lawful low some c.read_columns.ensures (omega (arith, is)) (omega (arith, less, room))))
-    (let q : c.saturating_sub.result ≡ lines_of (with_copies M s r (neg_ℤ (pos n))) = omega (arith, less, counted, down) in q ∙ ap (λ (p : PendingLine). lines_of (with_change_of M p)) (sym line)) in
-    let under = λ (o : SoundBook stock b).
-    let is = c.sum_at-old.ensures o in
-    let less = lines_less M s r n o.lawful low some (omega (arith, is)) in
-    let room = o.lawful.room in
-    let counted = o.counted in
-    let down = c.saturating_sub.ensures in
-    c.note-2.ensures.below o
-    (subst (Accepts M) (sym line) (accepts_loss M s r n o.lawful low some c.read_columns.ensures (omega (arith, is)) (omega (arith, less, room))))
-    (let q : c.saturating_sub.result ≡ lines_of (with_copies M s r (neg_ℤ (pos n))) = omega (arith, less, counted, down) in q ∙ ap (λ (p : PendingLine). lines_of (with_change_of M p)) (sym line)) in
+    let q : c.saturating_sub.result ≡ lines_of (with_copies M s r (neg_ℤ (pos n))) = omega (arith, less, counted, down) in q ∙ ap (λ (p : PendingLine). lines_of (with_change_of M p)) (sym line) in
+    let noted = λ (o : SoundBook stock b). c.note-2.ensures.after o (accepted o) (counted_by o) in
+    let under = λ (o : SoundBook stock b). c.note-2.ensures.below o (accepted o) (counted_by o) in
     record {
       memory = c.note-2.ensures.memory;
       sound = λ (o : SoundBook stock b). (noted o).sound;
