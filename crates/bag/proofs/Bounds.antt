@@ -44,4 +44,4 @@ group_copies_most b key (e ∷ xs) h k = by (le_z e.1 (pos b)) refl h (group_cop
     by true p h ih =
         rw (mul-suc b (length xs))
         (sums (copies_at k (key e.0) e.1) (group_copies key xs k) (b * length xs) (if_equal_most (row_order (key e.0) k) e.1 (at_most_if e.1 b p)) (ih h k))
-    by false p h ih = let z : ◌≡◌ {A = ℕ} 0 1 = cc in absurd (omega arith)
+    by false p h ih = let z : ⊥ = cc in absurd z

@@ -1,5 +1,4 @@
 pub mod Numbers
-pub mod RowSteps
 pub mod KeyOrder
 pub mod CanonicalForm
 pub mod Conditions

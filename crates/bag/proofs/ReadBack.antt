@@ -179,7 +179,7 @@ module _ {V : Type 0} {ok : V → Type 0} (M : Measure V) (L : GroupLaws ok M.gr
     where
       by : (t : Bool) → M.fits (val e.0) ≡ t → cond t (every_line (λ k n. M.fits (val k)) gs) false ≡ true → (every_line (λ k n. M.fits (val k)) gs ≡ true → Fit M S (length is) room val val_ok gs) → Fit M S (length is) room val val_ok (e ∷ gs)
       by true p h ih = (p, ih h)
-      by false p h ih = let z : ◌≡◌ {A = ℕ} 0 1 = cc in absurd (omega arith)
+      by false p h ih = let z : ⊥ = cc in absurd z
 
   module _ (fits : all_groups_fit M j is xs ≡ true) where
     pub read_group_is : (k : Row) → Key (length is) k → read_group M (length is) (total M j is xs) k ≡ group_of M j is xs k

@@ -31,7 +31,7 @@ same_test false false f g = refl
 
 both_true : (t a : Bool) → cond t a false ≡ true → (t ≡ true) × (a ≡ true)
 both_true true a h = (refl, h)
-both_true false a h = let z : ◌≡◌ {A = ℕ} 0 1 = cc in absurd (omega arith)
+both_true false a h = let z : ⊥ = cc in absurd z
 
 module _ (f : Row → ℤ → Bool) where
   pub every_passes : (xs : Lines) → Canonical xs → every_line f xs ≡ true → (q : Row) → is_zero (count xs q) ≡ false → f q (count xs q) ≡ true

@@ -84,7 +84,7 @@ module _ {V : Type 0} {ok : V → Type 0} (M : Measure V) (L : MeasureLaws ok M)
       by : (t : Bool) → M.fits (val e.0) ≡ t → cond t (every_line (λ k n. M.fits (val k)) gs) false ≡ true → (every_line (λ k n. M.fits (val k)) gs ≡ true → EachRow (OfWidth (n + 1 + M.shows)) (map_groups (λ k c. total_row M n k c (val k)) gs)) →
           EachRow (OfWidth (n + 1 + M.shows)) (map_groups (λ k c. total_row M n k c (val k)) (e ∷ gs))
       by true p h ih = (width_total_row e.0 e.1 (val e.0) (o e.0) p, ih h)
-      by false p h ih = let z : ◌≡◌ {A = ℕ} 0 1 = cc in absurd (omega arith)
+      by false p h ih = let z : ⊥ = cc in absurd z
 
 pub total_keeps_its_width : {V : Type 0} {ok : V → Type 0} (M : Measure V) → MeasureLaws ok M → TotalKeepsItsWidth M
 unfolding aggregate

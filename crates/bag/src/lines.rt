@@ -2,11 +2,13 @@ ghost use Rattle.std.specs.Prelude.{◌≡◌};
 ghost use Rattle.bag.specs.Order.{stock_line_order, change_line_order};
 ghost use Rattle.bag.specs.Lines.{blank_stock_line, blank_change_line};
 
-use crate::row::{Row, compare_rows};
+use crate::row::Row;
 use std::cmp::Ordering;
 
+// The two kinds of line stay two types, and not one over a kind of number: their fields' names say what each number means.
+
 // A line of a store of bags: how many copies of a row lie on a shelf.
-#[derive(Clone, Copy)]
+#[derive(Clone, Copy, PartialEq, Eq, Debug)]
 pub struct StockLine {
     pub shelf: u8,
     pub row: Row,
@@ -14,7 +16,7 @@ pub struct StockLine {
 }
 
 // A line of a sheet: how many copies of a row a node gains, or loses where the number is negative.
-#[derive(Clone, Copy)]
+#[derive(Clone, Copy, PartialEq, Eq, Debug)]
 pub struct ChangeLine {
     pub node: u8,
     pub row: Row,
@@ -37,14 +39,7 @@ impl StockLine {
     pub fn compare_keys(&self, other: &StockLine) -> Ordering
         ensures { result ≡ stock_line_order self.now other.now }
     {
-        if self.shelf != other.shelf {
-            return if self.shelf < other.shelf {
-                Ordering::Less
-            } else {
-                Ordering::Greater
-            };
-        }
-        compare_rows(&self.row, &other.row)
+        (self.shelf, &self.row).cmp(&(other.shelf, &other.row))
     }
 }
 
@@ -64,13 +59,6 @@ impl ChangeLine {
     pub fn compare_keys(&self, other: &ChangeLine) -> Ordering
         ensures { result ≡ change_line_order self.now other.now }
     {
-        if self.node != other.node {
-            return if self.node < other.node {
-                Ordering::Less
-            } else {
-                Ordering::Greater
-            };
-        }
-        compare_rows(&self.row, &other.row)
+        (self.node, &self.row).cmp(&(other.node, &other.row))
     }
 }

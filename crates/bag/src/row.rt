@@ -10,16 +10,5 @@ pub type Row = [i32; 8];
 pub fn compare_rows(a: &Row, b: &Row) -> Ordering
     ensures { result ≡ row_order a.now b.now }
 {
-    for i in 0..8 {
-        let x = a[i];
-        let y = b[i];
-        if x != y {
-            return if x < y {
-                Ordering::Less
-            } else {
-                Ordering::Greater
-            };
-        }
-    }
-    Ordering::Equal
+    a.cmp(b)
 }

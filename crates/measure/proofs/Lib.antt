@@ -1,4 +1,4 @@
+pub mod RowParts
 pub mod RoundTripHolds
 pub mod FollowLaws
-pub mod WorkedValuesHold
 pub mod WorkedInFullHold

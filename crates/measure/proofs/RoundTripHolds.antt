@@ -1,17 +1,15 @@
 -- A value that is shown comes back from its row, and the row is as owed. Assumes nothing.
 --     round_trip        the law, of every measure with fewer than eight columns
---     comes_back        what is read from the row of a value that fits
---     same_again        the same, as an answer that may be none
---     again_none, again_some      what the code answers, from what is shown
-use Rattle.std.proofs.Common.{◌≡◌, ℕ, zero, suc, ◌<◌, Bool, true, false, cond, List, [], ◌∷◌, length, ℤ, pos, negsuc, nat_abs, Some, None, Option, sym, refl, ap, ◌∙◌, arith}
+--     row_of            the row of a value that fits
+use Rattle.std.proofs.Common.{◌≡◌, ℕ, zero, suc, ◌<◌, Bool, true, false, cond, List, [], ◌∷◌, length, ℤ, pos, negsuc, nat_abs, Some, None, sym, refl, ap, ◌∙◌, arith}
 use Rattle.std.proofs.lemmas.List.{get_or_past}
 use Rattle.bag.specs.Order.{Row}
 use Rattle.bag.specs.Columns.{column_of, padded}
 use Rattle.bag.specs.Measure.{Measure, MeasureLaws, ShowingLaws, ShownColumn, ShownColumns}
 use Rattle.bag.proofs.ColumnLaws.{column_of_padded}
 use Rattle.bag.proofs.Widths.{width_padded}
-use Rattle.measure.specs.Shown.{shown, read_from}
-use Rattle.measure.specs.RoundTrip.{shown_again, if_it_fits, RowOf, RoundTrip}
+use Rattle.measure.specs.Shown.{read_from}
+use Rattle.measure.specs.RoundTrip.{RowOf, RoundTrip}
 use Rattle.measure.specs.Rows.{exactly_self}
 
 shown_at : (zs : List ℤ) (j : ℕ) → ShownColumns zs → j < length zs → ShownColumn (column_of zs j)
@@ -26,7 +24,7 @@ module _ {V : Type 0} {ok : V → Type 0} (M : Measure V) (L : MeasureLaws ok M)
   S : ShowingLaws ok M
   S = L.showing few
 
-  pub comes_back : (v : V) → ok v → M.fits v ≡ true → read_from M (padded (M.columns v)) ≡ v
+  comes_back : (v : V) → ok v → M.fits v ≡ true → read_from M (padded (M.columns v)) ≡ v
   comes_back v a f = ap M.reads (exactly_self M.shows (M.columns v) (S.as_many v a f) (omega arith)) ∙ S.read_back v a f
 
   row_of : (v : V) → ok v → M.fits v ≡ true → RowOf M v (padded (M.columns v))
@@ -38,31 +36,9 @@ module _ {V : Type 0} {ok : V → Type 0} (M : Measure V) (L : MeasureLaws ok M)
         not_lowest (column_of (M.columns v) j) (shown_at (M.columns v) j (S.never_lowest v a f) (omega arith)) (sym (column_of_padded (M.columns v) j (omega arith)) ∙ e);
   }
 
-  pub same_again : (v : V) → ok v → shown_again M v ≡ if_it_fits M v
-  same_again v a = by (M.fits v) refl
-    where
-      by : (t : Bool) → M.fits v ≡ t → cond t (Some (read_from M (padded (M.columns v)))) None ≡ cond t (Some v) None
-      by true f = ap Some (comes_back v a f)
-      by false f = refl
-
   pub round_trip : RoundTrip ok M
   round_trip = record { of_each_value = λ v a row e. by v a row (M.fits v) refl e; zero_is_shown = ap (λ t. cond t (Some (padded (M.columns M.group.zero))) None) S.zero_fits }
     where
       by : (v : V) → ok v → (row : Row) (t : Bool) → M.fits v ≡ t → cond t (Some (padded (M.columns v))) None ≡ Some row → RowOf M v row
       by v a row true f e = let r : padded (M.columns v) ≡ row = cc in rw (sym r) (row_of v a f)
       by v a row false f e = let z : ◌≡◌ {A = ℕ} 0 1 = cc in absurd (omega arith)
-
-module _ {V : Type 0} (M : Measure V) (v : V) where
-  pub again_none : shown M v ≡ None → ◌≡◌ {A = Option V} None (shown_again M v)
-  again_none e = by (M.fits v) e
-    where
-      by : (t : Bool) → cond t (Some (padded (M.columns v))) None ≡ None → ◌≡◌ {A = Option V} None (cond t (Some (read_from M (padded (M.columns v)))) None)
-      by true e = let z : ◌≡◌ {A = ℕ} 0 1 = cc in absurd (omega arith)
-      by false e = refl
-
-  pub again_some : (row : Row) → shown M v ≡ Some row → Some (read_from M row) ≡ shown_again M v
-  again_some row e = by (M.fits v) e
-    where
-      by : (t : Bool) → cond t (Some (padded (M.columns v))) None ≡ Some row → Some (read_from M row) ≡ cond t (Some (read_from M (padded (M.columns v)))) None
-      by true e = let r : padded (M.columns v) ≡ row = cc in ap (λ q. Some (read_from M q)) (sym r)
-      by false e = let z : ◌≡◌ {A = ℕ} 0 1 = cc in absurd (omega arith)

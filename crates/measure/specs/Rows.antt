@@ -1,15 +1,9 @@
 -- Rows of eight columns, column by column. Assumes nothing.
 --     padded_same, padded_behind     only eight columns matter, and no zero behind them
---     column_from                    the columns from a place on
---     Filled target i row            the first i columns of row are those of target
---     filled_more, filled_step, filled_all      one column more, and all of them
 --     exactly_within, exactly_self, exactly_take, length_exactly      as many columns as asked for
-use Rattle.std.specs.Prelude.{◌≡◌, ℕ, zero, suc, ◌+◌, ◌<◌, ◌≤◌, min, ◌⊎◌, List, [], ◌∷◌, ◌++◌, length, take, drop, replicate, ℤ, pos, FitsSigned, ◌≢◌, slice_set, refl}
-use Rattle.std.proofs.Common.{sym, ap, ◌∙◌, inl, inr, arith, to_z, of_z}
-use Rattle.std.proofs.lemmas.List.{ext_get_or, get_or-take, get_or-drop, get_or-set_same, get_or-set_other, get_or_past, length-take, length-set, take-take, take_all, take-append-le}
-use Rattle.std.specs.Int.{w32}
-use Rattle.std.proofs.lemmas.Int.{to_z-of_z}
-use Rattle.std.proofs.lemmas.Bool.{cases_eq, cases_lt}
+use Rattle.std.specs.Prelude.{◌≡◌, ℕ, zero, suc, ◌<◌, ◌≤◌, min, List, [], ◌∷◌, ◌++◌, length, take, replicate, ℤ, pos, refl}
+use Rattle.std.proofs.Common.{sym, ap, ◌∙◌, arith}
+use Rattle.std.proofs.lemmas.List.{ext_get_or, get_or-take, length-take, take-take, take_all, take-append-le}
 use Rattle.bag.specs.Columns.{column_of, padded}
 use Rattle.bag.proofs.ColumnKinds.{length_padded}
 use Rattle.bag.proofs.ColumnLaws.{column_of_padded}
@@ -26,34 +20,6 @@ padded_behind xs zs = padded_same (xs ++ padded zs) (xs ++ zs) (same xs)
     same [] i h = column_of_padded zs i h
     same (x ∷ xs) zero h = refl
     same (x ∷ xs) (suc i) h = same xs i (omega arith)
-
-pub column_from : (start first : ℕ) (a : List ℤ) (i : ℕ) → length a ≡ 8 → i < 8 → first ≡ min start 8 → column_of a (first + i) ≡ column_of (padded (drop start a)) i
-column_from start first a i e h m = by (cases_lt 8 start) ∙ sym (column_of_padded (drop start a) i h ∙ get_or-drop start a i (pos 0))
-  where
-    by : (8 < start) ⊎ (start ≤ 8) → column_of a (first + i) ≡ column_of a (start + i)
-    by (inl l) = get_or_past a (first + i) (pos 0) (omega arith) ∙ sym (get_or_past a (start + i) (pos 0) (omega arith))
-    by (inr l) = ap (λ n. column_of a (n + i)) (omega arith)
-
-abbrev pub Filled : List ℤ → ℕ → List ℤ → Type 0
-Filled target i row = (length row ≡ 8) × ((k : ℕ) → k < i → column_of row k ≡ column_of target k)
-
-pub filled_more : (target row : List ℤ) (i : ℕ) (x : ℤ) → i < 8 → Filled target i row → x ≡ column_of target i → Filled target (i + 1) (slice_set row i x)
-filled_more target row i x h f e = (length-set row i x ∙ f.0, λ k l. by k (cases_eq k i) l)
-  where
-    below : {k : ℕ} → (k < i) ⊎ (i ≤ k) → (k ≢ i) → k < i + 1 → k < i
-    below (inl q) p l = q
-    below (inr q) p l = absurd (p (omega arith))
-
-    by : (k : ℕ) → (k ≡ i) ⊎ (k ≢ i) → k < i + 1 → column_of (slice_set row i x) k ≡ column_of target k
-    by k (inl p) l = let q = f.0 in rw p (get_or-set_same row i x (pos 0) (omega arith) ∙ e)
-    by k (inr p) l = get_or-set_other row i k x (pos 0) p ∙ f.1 k (below (cases_lt k i) p l)
-
--- the same, as a column shows that was passed as 32 bits
-pub filled_step : (target row : List ℤ) (i : ℕ) (x : ℤ) → FitsSigned w32 x → i < 8 → Filled target i row → x ≡ column_of target i → Filled target (i + 1) (slice_set row i (to_z w32 (of_z w32 x)))
-filled_step target row i x s h f e = rw (to_z-of_z w32 x s) (filled_more target row i x h f e)
-
-pub filled_all : (zs row : List ℤ) (i : ℕ) → 8 ≤ i → Filled (padded zs) i row → row ≡ padded zs
-filled_all zs row i h f = ext_get_or (pos 0) row (padded zs) (f.0 ∙ sym (length_padded zs)) (λ k l. let e = f.0 in f.1 k (omega arith))
 
 pub exactly_within : (k : ℕ) (zs : List ℤ) → k ≤ length zs → k ≤ 8 → exactly k zs ≡ take k zs
 exactly_within k zs l h = take-take k 8 (zs ++ replicate 8 (pos 0)) h ∙ take-append-le k zs (replicate 8 (pos 0)) l

@@ -3,10 +3,10 @@
 --     columns_as_far, columns_are    the columns of a pair that fits, where the first leaves room, and below eight columns
 --     shown_both                     what is shown, from what the parts show
 --     read_both                      what is read, from what the parts read
-use Rattle.std.specs.Prelude.{◌≡◌, ℕ, ◌+◌, ◌<◌, ◌≤◌, min, Bool, true, false, cond, ◌&&◌, ◌⊎◌, List, [], ◌∷◌, ◌++◌, length, take, drop, ℤ, Some, None, refl}
+use Rattle.std.specs.Prelude.{◌≡◌, ℕ, ◌+◌, ◌<◌, ◌≤◌, min, Bool, true, false, cond, ◌&&◌, ◌⊎◌, List, [], ◌∷◌, ◌++◌, length, take, drop, ℤ, Some, None}
 use Rattle.std.proofs.Common.{sym, ap, ap₂, ◌∙◌, inl, inr, arith}
 use Rattle.std.proofs.lemmas.List.{length-append, take_all, take-take, take_at, drop_at, drop-take}
-use Rattle.std.proofs.lemmas.Bool.{cases_lt}
+use Rattle.std.proofs.lemmas.Bool.{and_parts, cases_lt}
 use Rattle.bag.specs.Order.{Row}
 use Rattle.bag.specs.Columns.{padded, followed}
 use Rattle.bag.specs.Group.{GroupLaws, AddsUp}
@@ -17,10 +17,6 @@ use Rattle.measure.specs.Rows.{padded_behind, exactly_self, exactly_take, length
 
 pair : {V W : Type 0} {a b : V} {c d : W} → a ≡ b → c ≡ d → ◌≡◌ {A = V × W} (a, c) (b, d)
 pair {V = V} {W = W} p q = ap₂ {C = V × W} (λ x y. (x, y)) p q
-
-both_true : (a b : Bool) → a && b ≡ true → (a ≡ true) × (b ≡ true)
-both_true true b e = (refl, e)
-both_true false b e = let z : ◌≡◌ {A = ℕ} 0 1 = cc in absurd (omega arith)
 
 shown-++ : (a b : List ℤ) → ShownColumns a → ShownColumns b → ShownColumns (a ++ b)
 shown-++ [] b h k = k
@@ -54,7 +50,7 @@ module _ {V W : Type 0} {ok : V → Type 0} {ok' : W → Type 0} (A : Measure V)
   -- where the value fits, its columns are the first's and then the second's, as far as there is room
   pub columns_as_far : A.shows < 8 → (v : V × W) → OkPair ok ok' v → (side_by_side A B).fits v ≡ true → (side_by_side A B).columns v ≡ A.columns v.0 ++ B.columns v.1
   columns_as_far less v a f =
-      let t = both_true (A.fits v.0) (B.fits v.1) f in
+      let t = and_parts (A.fits v.0) (B.fits v.1) f in
       ap (λ zs. zs ++ B.columns v.1) (exactly_self A.shows (A.columns v.0) ((L.showing less).as_many v.0 a.0 t.0) (omega arith))
 
   module _ (few : A.shows + B.shows < 8) where
@@ -66,7 +62,7 @@ module _ {V W : Type 0} {ok : V → Type 0} {ok' : W → Type 0} (A : Measure V)
 
     many : (v : V × W) → OkPair ok ok' v → (side_by_side A B).fits v ≡ true → length ((side_by_side A B).columns v) ≡ min 8 (A.shows + B.shows)
     many v a f =
-        let t = both_true (A.fits v.0) (B.fits v.1) f in
+        let t = and_parts (A.fits v.0) (B.fits v.1) f in
         let e = length-append (exactly A.shows (A.columns v.0)) (B.columns v.1) in
         let p = length_exactly A.shows (A.columns v.0) (omega arith) in
         let q = T.as_many v.1 a.1 t.1 in omega arith
@@ -85,14 +81,14 @@ module _ {V W : Type 0} {ok : V → Type 0} {ok' : W → Type 0} (A : Measure V)
         ∙ T.read_back v.1 a.1 t.1)
       where
         t : (A.fits v.0 ≡ true) × (B.fits v.1 ≡ true)
-        t = both_true (A.fits v.0) (B.fits v.1) f
+        t = and_parts (A.fits v.0) (B.fits v.1) f
 
         p : length (A.columns v.0) ≡ A.shows
         p = S.as_many v.0 a.0 t.0
 
     lowest : (v : V × W) → OkPair ok ok' v → (side_by_side A B).fits v ≡ true → ShownColumns ((side_by_side A B).columns v)
     lowest v a f =
-        let t = both_true (A.fits v.0) (B.fits v.1) f in
+        let t = and_parts (A.fits v.0) (B.fits v.1) f in
         rw (columns_are v a f) (shown-++ (A.columns v.0) (B.columns v.1) (S.never_lowest v.0 a.0 t.0) (T.never_lowest v.1 a.1 t.1))
 
     showing : ShowingLaws (OkPair ok ok') (side_by_side A B)

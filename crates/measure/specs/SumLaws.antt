@@ -1,5 +1,6 @@
 -- Sum keeps the laws of a measure. Assumes nothing.
 --     sum_laws        all of them
+--     wrapped_zero    zero modulo 2^64
 use Rattle.std.specs.Prelude.{◌≡◌, pos, ◌+ℤ◌, ◌*ℤ◌, neg_ℤ, FitsSigned, refl}
 use Rattle.std.proofs.Common.{sym, ap, ◌∙◌, subst, arith, leb-true}
 use Rattle.std.proofs.Math.IntN.{+ℤ_assoc, +ℤ_comm, +ℤ_idl, +ℤ_invr, *ℤ-zero}
@@ -10,7 +11,7 @@ use Rattle.bag.specs.Measure.{MeasureLaws, ShowingLaws}
 use Rattle.bag.specs.Integers.{*ℤ-sum}
 use Rattle.measure.specs.Sum.{sums, sum}
 
-wrapped_zero : int_wrap w64 (pos 0) ≡ pos 0
+pub wrapped_zero : int_wrap w64 (pos 0) ≡ pos 0
 unfolding int_wrap
 wrapped_zero = refl
 

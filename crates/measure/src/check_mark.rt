@@ -1,12 +1,13 @@
-ghost use Rattle.measure.specs.CheckMark.{IsMark, check_mark};
+ghost use Rattle.std.specs.Prelude.{◌≡◌};
+ghost use Rattle.measure.specs.CheckMark.{IsMark, check_mark, low_half};
 ghost use Rattle.measure.specs.CheckMarkLaws.{check_mark_laws};
 
 use crate::measure::{LawfulThroughout, Measure};
 use bag::row::Row;
 
 // The exclusive or of the numbers' patterns over all copies: two copies cancel, so only whether copies are odd counts.
-#[derive(Clone, Copy)]
-pub struct CheckMark {}
+#[derive(Clone, Copy, Debug, PartialEq, Eq)]
+pub struct CheckMark;
 
 impl Measure for CheckMark {
     type Value = u32;
@@ -31,7 +32,7 @@ impl Measure for CheckMark {
     }
 
     fn worth(&self, number: i32, copies: i64) -> u32 {
-        if copies.cast_unsigned() % 2 == 1 {
+        if copies % 2 != 0 {
             number.cast_unsigned()
         } else {
             0
@@ -50,9 +51,8 @@ impl Measure for CheckMark {
     }
 
     fn read_back(&self, columns: &Row) -> u32 {
-        let upper = columns[0].cast_unsigned() % 65536;
-        let lower = columns[1].cast_unsigned() % 65536;
-        upper * 65536 + lower
+        let [upper, lower, ..] = *columns;
+        low_half(upper) * 65536 + low_half(lower)
     }
 }
 
@@ -60,4 +60,11 @@ impl LawfulThroughout for CheckMark {
     fn held(&self, value: u32) -> u32 {
         value
     }
+}
+
+// The lower 16 bits of a column.
+fn low_half(column: i32) -> u32
+    ensures { result ≡ low_half column }
+{
+    column.cast_unsigned() % 65536
 }

@@ -12,7 +12,7 @@ use bag::lines::ChangeLine;
 pub fn line_worth<M: Measure>(measure: &M, line: &ChangeLine, column: usize) -> M::Value
     ensures { result ≡ column_worth M.Measure.model column line.now.row line.now.change }
 {
-    measure.worth(column_of(&line.row, column), line.change as i64)
+    measure.worth(column_of(&line.row, column), i64::from(line.change))
 }
 
 // The value of a column over all copies of the lines. From the last line to the first, as the definition adds, so that no law of the
@@ -20,11 +20,9 @@ pub fn line_worth<M: Measure>(measure: &M, line: &ChangeLine, column: usize) -> 
 pub fn value_over<M: Measure>(measure: &M, lines: &[ChangeLine], column: usize) -> M::Value
     ensures { result ≡ column_value M.Measure.model column (lines_of lines.now) }
 {
-    let mut value = measure.zero();
-    for i in (0..lines.len()).rev() {
-        value = measure.plus(line_worth(measure, &lines[i], column), value);
-    }
-    value
+    lines.iter().rev().fold(measure.zero(), |value, line| {
+        measure.plus(line_worth(measure, line, column), value)
+    })
 }
 
 // The value over the new bag, from the value over the old one and the change alone: a total needs no bag below it.

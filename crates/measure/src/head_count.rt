@@ -5,8 +5,8 @@ use crate::measure::{LawfulThroughout, Measure};
 use bag::row::Row;
 
 // One value, and nothing to show: the copies that a total shows of each group say it all.
-#[derive(Clone, Copy)]
-pub struct HeadCount {}
+#[derive(Clone, Copy, Debug, PartialEq, Eq)]
+pub struct HeadCount;
 
 impl Measure for HeadCount {
     type Value = ();
@@ -17,13 +17,13 @@ impl Measure for HeadCount {
 
     ghost lawful = { Prim.search rules };
 
-    fn zero(&self) -> () {}
+    fn zero(&self) {}
 
-    fn plus(&self, a: (), b: ()) -> () {}
+    fn plus(&self, a: (), b: ()) {}
 
-    fn minus(&self, a: ()) -> () {}
+    fn minus(&self, a: ()) {}
 
-    fn worth(&self, number: i32, copies: i64) -> () {}
+    fn worth(&self, number: i32, copies: i64) {}
 
     fn column_count(&self) -> usize {
         0
@@ -33,9 +33,9 @@ impl Measure for HeadCount {
         Some([0; 8])
     }
 
-    fn read_back(&self, columns: &Row) -> () {}
+    fn read_back(&self, columns: &Row) {}
 }
 
 impl LawfulThroughout for HeadCount {
-    fn held(&self, value: ()) -> () {}
+    fn held(&self, value: ()) {}
 }

@@ -6,7 +6,7 @@ use crate::measure::{LawfulThroughout, Measure};
 use bag::row::Row;
 
 // Two measures of the same numbers; either may itself be side by side.
-#[derive(Clone, Copy)]
+#[derive(Clone, Copy, Debug, PartialEq, Eq)]
 pub struct SideBySide<A, B> {
     pub first: A,
     pub second: B,
@@ -21,19 +21,19 @@ impl<A: Measure, B: Measure> Measure for SideBySide<A, B> {
 
     ghost lawful = { side_by_side_laws A.Measure.model B.Measure.model A.Measure.lawful B.Measure.lawful };
 
-    fn zero(&self) -> (A::Value, B::Value) {
+    fn zero(&self) -> Self::Value {
         (self.first.zero(), self.second.zero())
     }
 
-    fn plus(&self, a: (A::Value, B::Value), b: (A::Value, B::Value)) -> (A::Value, B::Value) {
+    fn plus(&self, a: Self::Value, b: Self::Value) -> Self::Value {
         (self.first.plus(a.0, b.0), self.second.plus(a.1, b.1))
     }
 
-    fn minus(&self, a: (A::Value, B::Value)) -> (A::Value, B::Value) {
+    fn minus(&self, a: Self::Value) -> Self::Value {
         (self.first.minus(a.0), self.second.minus(a.1))
     }
 
-    fn worth(&self, number: i32, copies: i64) -> (A::Value, B::Value) {
+    fn worth(&self, number: i32, copies: i64) -> Self::Value {
         (
             self.first.worth(number, copies),
             self.second.worth(number, copies),
@@ -45,20 +45,20 @@ impl<A: Measure, B: Measure> Measure for SideBySide<A, B> {
     }
 
     // Past eight columns the front of them.
-    fn show(&self, value: (A::Value, B::Value)) -> Option<Row> {
+    fn show(&self, value: Self::Value) -> Option<Row> {
         let first = self.first.show(value.0)?;
         let second = self.second.show(value.1)?;
         Some(followed_by(&first, self.first.column_count(), &second))
     }
 
-    fn read_back(&self, columns: &Row) -> (A::Value, B::Value) {
+    fn read_back(&self, columns: &Row) -> Self::Value {
         let rest = columns_from(columns, self.first.column_count());
         (self.first.read_back(columns), self.second.read_back(&rest))
     }
 }
 
 impl<A: LawfulThroughout, B: LawfulThroughout> LawfulThroughout for SideBySide<A, B> {
-    fn held(&self, value: (A::Value, B::Value)) -> (A::Value, B::Value) {
+    fn held(&self, value: Self::Value) -> Self::Value {
         (self.first.held(value.0), self.second.held(value.1))
     }
 }

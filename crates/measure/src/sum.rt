@@ -7,9 +7,10 @@ use crate::measure::{LawfulThroughout, Measure};
 use bag::row::Row;
 
 // The sum of the numbers over all copies, modulo 2^64.
-#[derive(Clone, Copy)]
-pub struct Sum {}
+#[derive(Clone, Copy, Debug, PartialEq, Eq)]
+pub struct Sum;
 
+#[tactic(auto, using(std::proofs::lemmas::Int::wraps))]
 impl Measure for Sum {
     type Value = i64;
 
@@ -32,7 +33,7 @@ impl Measure for Sum {
     }
 
     fn worth(&self, number: i32, copies: i64) -> i64 {
-        (number as i64).wrapping_mul(copies)
+        i64::from(number).wrapping_mul(copies)
     }
 
     fn column_count(&self) -> usize {
@@ -41,7 +42,7 @@ impl Measure for Sum {
 
     // -2,147,483,648 is a column that no total shows, so it does not fit.
     fn show(&self, value: i64) -> Option<Row> {
-        if (value >= -2147483647) & (value <= 2147483647) {
+        if (-2147483647..=2147483647).contains(&value) {
             Some([value as i32, 0, 0, 0, 0, 0, 0, 0])
         } else {
             None
@@ -49,7 +50,7 @@ impl Measure for Sum {
     }
 
     fn read_back(&self, columns: &Row) -> i64 {
-        columns[0] as i64
+        i64::from(columns[0])
     }
 }
 

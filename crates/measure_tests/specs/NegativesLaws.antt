@@ -1,19 +1,14 @@
 -- The measure `negatives` keeps the laws of a measure. Assumes nothing.
---     negatives_laws                   all of them
---     worth_below, worth_not_below     what the code computes
-use Rattle.std.specs.Prelude.{◌≡◌, ℤ, pos, negsuc, ◌+ℤ◌, ◌≤ℤ◌, ◌<ℤ◌, FitsSigned, refl}
+--     negatives_laws        all of them
+use Rattle.std.specs.Prelude.{◌≡◌, ℤ, pos, negsuc, ◌+ℤ◌, FitsSigned}
 use Rattle.std.proofs.Common.{sym, ◌∙◌, arith}
 use Rattle.std.specs.Int.{int_wrap, w64}
-use Rattle.std.proofs.lemmas.Int.{ints, int_wrap_fits, int_wrap-add_left, int_wrap-add_right, SFits-int_wrap}
+use Rattle.std.proofs.lemmas.Int.{int_wrap-add_left, int_wrap-add_right, SFits-int_wrap}
 use Rattle.bag.specs.Group.{AddsUp}
 use Rattle.bag.specs.Measure.{MeasureLaws, ShowingLaws}
 use Rattle.measure.specs.Sum.{sums, sum}
-use Rattle.measure.specs.SumLaws.{sum_laws}
+use Rattle.measure.specs.SumLaws.{sum_laws, wrapped_zero}
 use Rattle.measure_tests.specs.Negatives.{if_negative, negatives}
-
-wrapped_zero : int_wrap w64 (pos 0) ≡ pos 0
-unfolding int_wrap
-wrapped_zero = refl
 
 copies : AddsUp (FitsSigned w64) sums negatives.worth
 copies = record { ok_worth = λ v n. SFits-int_wrap w64 (if_negative v n); at_zero = at_zero; adds = adds }
@@ -31,11 +26,3 @@ showing S = record { as_many = S.as_many; read_back = S.read_back; never_lowest 
 
 pub negatives_laws : MeasureLaws (FitsSigned w64) negatives
 negatives_laws = record { group_laws = sum_laws.group_laws; adds_up = copies; at_most_eight = omega arith; showing = λ few. showing (sum_laws.showing few) }
-
-pub worth_below : (v n : ℤ) → v <ℤ pos 0 → FitsSigned w64 n → n ≡ int_wrap w64 (if_negative v n)
-worth_below (pos v) n h f = absurd (omega (arith, ints))
-worth_below (negsuc v) n h f = sym (int_wrap_fits w64 n f)
-
-pub worth_not_below : (v n : ℤ) → pos 0 ≤ℤ v → pos 0 ≡ int_wrap w64 (if_negative v n)
-worth_not_below (pos v) n h = sym wrapped_zero
-worth_not_below (negsuc v) n h = absurd (omega (arith, ints))

@@ -7,7 +7,7 @@ fn line(kind: i32, number: i32, change: i32) -> ChangeLine {
     ChangeLine {
         node: 0,
         row: [kind, number, 0, 0, 0, 0, 0, 0],
-        change: change,
+        change,
     }
 }
 
@@ -17,14 +17,14 @@ fn kept_from_changes(rt: HostRuntime) {
     let old = [line(3, 1500, 2), line(3, 2000, 1)];
     let change = [line(3, 1500, 1), line(3, 2000, -1)];
     let new = [line(3, 1500, 3)];
-    let sum = Sum {};
+    let sum = Sum;
     assert_eq!(rt; value_over(&sum, &old, 1), 5000);
     assert_eq!(rt;
         value_after(&sum, value_over(&sum, &old, 1), &change, 1),
         4500
     );
     assert_eq!(rt; value_over(&sum, &new, 1), 4500);
-    let mark = CheckMark {};
+    let mark = CheckMark;
     assert_eq!(rt;
         value_after(&mark, value_over(&mark, &old, 1), &change, 1),
         value_over(&mark, &new, 1)

@@ -8,8 +8,8 @@ use measure::measure::Measure;
 use measure::sum::Sum;
 
 // How many copies have a number below 0. Its values are those of a sum, so all but the worth is the sum's.
-#[derive(Clone, Copy)]
-pub struct Negatives {}
+#[derive(Clone, Copy, Debug, PartialEq, Eq)]
+pub struct Negatives;
 
 impl Measure for Negatives {
     type Value = i64;
@@ -21,15 +21,15 @@ impl Measure for Negatives {
     ghost lawful = { negatives_laws };
 
     fn zero(&self) -> i64 {
-        Sum {}.zero()
+        Sum.zero()
     }
 
     fn plus(&self, a: i64, b: i64) -> i64 {
-        Sum {}.plus(a, b)
+        Sum.plus(a, b)
     }
 
     fn minus(&self, a: i64) -> i64 {
-        Sum {}.minus(a)
+        Sum.minus(a)
     }
 
     fn worth(&self, number: i32, copies: i64) -> i64 {
@@ -41,10 +41,10 @@ impl Measure for Negatives {
     }
 
     fn show(&self, value: i64) -> Option<Row> {
-        Sum {}.show(value)
+        Sum.show(value)
     }
 
     fn read_back(&self, columns: &Row) -> i64 {
-        Sum {}.read_back(columns)
+        Sum.read_back(columns)
     }
 }

@@ -6,30 +6,13 @@ use measure::side_by_side::SideBySide;
 use measure::sum::Sum;
 use std::test::Fail;
 
-type MarkAndSum = SideBySide<CheckMark, Sum>;
-
-type TwoMarks = SideBySide<CheckMark, CheckMark>;
-
-fn mark_and_sum() -> MarkAndSum {
-    SideBySide {
-        first: CheckMark {},
-        second: Sum {},
-    }
-}
-
-fn two_marks() -> TwoMarks {
-    SideBySide {
-        first: CheckMark {},
-        second: CheckMark {},
-    }
+fn beside<A, B>(first: A, second: B) -> SideBySide<A, B> {
+    SideBySide { first, second }
 }
 
 #[test]
 fn inside_another(rt: HostRuntime) -> Result<(), Fail> {
-    let measure = SideBySide {
-        first: HeadCount {},
-        second: mark_and_sum(),
-    };
+    let measure = beside(HeadCount, beside(CheckMark, Sum));
     let value = measure.worth(70000, 3);
     assert_eq!(rt; measure.column_count(), 3);
     let row = measure.show(value).ok_or("fits")?;
@@ -44,14 +27,9 @@ fn inside_another(rt: HostRuntime) -> Result<(), Fail> {
 // Nine columns: the pair says eight, and shows the front of the nine.
 #[test]
 fn past_eight_columns(rt: HostRuntime) -> Result<(), Fail> {
-    let marks = SideBySide {
-        first: two_marks(),
-        second: two_marks(),
-    };
-    let measure = SideBySide {
-        first: Sum {},
-        second: marks,
-    };
+    let two_marks = beside(CheckMark, CheckMark);
+    let marks = beside(two_marks, two_marks);
+    let measure = beside(Sum, marks);
     assert_eq!(rt; marks.column_count(), 8);
     assert_eq!(rt; measure.column_count(), 8);
     let row = measure.show(measure.worth(70000, 1)).ok_or("fits")?;
@@ -67,10 +45,7 @@ fn past_eight_columns(rt: HostRuntime) -> Result<(), Fail> {
 // A measure of one's own beside one of the crate's: 3 copies of -7 put, and 1 copy of 9.
 #[test]
 fn with_a_measure_of_ones_own(rt: HostRuntime) {
-    let measure = SideBySide {
-        first: Negatives {},
-        second: Sum {},
-    };
+    let measure = beside(Negatives, Sum);
     let value = measure.plus(measure.worth(-7, 3), measure.worth(9, 1));
     assert_eq!(rt; measure.show(value), Some([3, -12, 0, 0, 0, 0, 0, 0]));
     let gone = measure.plus(value, measure.minus(value));

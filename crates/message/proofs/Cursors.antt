@@ -8,7 +8,7 @@ use Rattle.message.proofs.Listings.{behind_ok}
 use Rattle.bag.specs.Bytes.{Bytes}
 use Rattle.message.specs.Encode.{encode, encode_all}
 use Rattle.message.specs.Laws.{CursorReads, CursorStands}
-use Rattle.message.proofs.Joins.{joined_append}
+use Rattle.std.proofs.lemmas.Grind.{flat_map-append}
 use Rattle.std.proofs.ByRecursion.{All-drop}
 use Rattle.message.proofs.Readings.{onward, AtEnd, Refused, Further, next_is}
 
@@ -154,7 +154,7 @@ stands bytes h (suc i) =
     moved_by bytes at seen (All-drop (λ b. b < 256) at bytes h)
     ∙ (ap (λ x. at + length (encode_all (answered x))) (left_is bytes i)
     ∙ (ap (λ n. n + length (encode_all new)) (stands bytes h i)
-    ∙ (sym (ap length (joined_append encode so_far new) ∙ length-append (encode_all so_far) (encode_all new))
+    ∙ (sym (ap length (flat_map-append encode so_far new) ∙ length-append (encode_all so_far) (encode_all new))
     ∙ sym (ap (λ l. length (encode_all l)) (one_more (reading bytes) i)))))
 
 pub cursor_stands : CursorStands

@@ -11,7 +11,7 @@ use Rattle.bag.specs.Bag.{is_zero}
 use Rattle.message.specs.Lawful.{column_lawful, columns_lawful, lawful}
 use Rattle.message.specs.Encode.{map_bits, map_of, column_bytes, count_bytes, node_bytes, encode}
 use Rattle.message.proofs.Numerals.{four_written, two_written}
-use Rattle.message.proofs.Joins.{joined_append}
+use Rattle.std.proofs.lemmas.Grind.{flat_map-append}
 use Rattle.message.proofs.Encoded.{length_set_columns}
 use Rattle.message.proofs.Maps.{bits_make}
 use Rattle.message.proofs.Lawfulness.{lawful_append}
@@ -174,7 +174,7 @@ columns_was map (suc k) xs row rest h e a =
           before.split
           ∙ (ap (λ m. flat_map column_bytes front ++ m) f.split
           ∙ (sym (append_assoc (flat_map column_bytes front) (column_bytes v) rest)
-          ∙ ap (λ m. m ++ rest) (ap (λ m. flat_map column_bytes front ++ m) (sym (append-nil (column_bytes v))) ∙ (sym (joined_append column_bytes front (v ∷ [])) ∙ sym (ap (flat_map column_bytes) l.row_is)))));
+          ∙ ap (λ m. m ++ rest) (ap (λ m. flat_map column_bytes front ++ m) (sym (append-nil (column_bytes v))) ∙ (sym (flat_map-append column_bytes front (v ∷ [])) ∙ sym (ap (flat_map column_bytes) l.row_is)))));
       bits = bits_of front v long l.row_is before.bits f.bit_is;
       law = ap columns_lawful l.row_is ∙ (lawful_append front (v ∷ []) ∙ and_from (columns_lawful front) (column_lawful v && true) before.law (and_from (column_lawful v) true f.law refl));
       left = f.left;

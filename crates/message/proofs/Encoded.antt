@@ -1,5 +1,6 @@
 -- A record's bytes, field by field.
-use Rattle.std.proofs.Common.{◌≡◌, ℕ, ◌+◌, ◌*◌, ◌^◌, Bool, false, not, eqb, List, [], ◌∷◌, ◌++◌, map, length, ℤ, ap, ◌∙◌, arith, length-append}
+use Rattle.std.proofs.Common.{◌≡◌, ℕ, ◌+◌, ◌*◌, ◌^◌, ◌≤◌, Bool, true, false, cond, refl, not, eqb, List, [], ◌∷◌, ◌++◌, map, length, ℤ, ap, ◌∙◌, arith, length-append}
+use Rattle.std.specs.Int.{from_bool}
 use Rattle.std.specs.List.{flat_map}
 use Rattle.std.proofs.lemmas.List.{length-map}
 use Rattle.message.specs.declared.record.Record.{Record}
@@ -38,3 +39,24 @@ length_encode r =
     let b = count_bytes r.count in
     let d = node_bytes r.node in
     omega (arith, length-append a (b ++ d), length-append b d)
+
+-- a field that stands where its value is not that of an absent one
+pub absent_or_whole : (n absent : ℕ) (bytes whole : List ℕ) → bytes ≡ whole → cond (not (eqb n absent)) bytes [] ≡ cond (eqb n absent) [] whole
+absent_or_whole n absent bytes whole e = by (eqb n absent)
+  where
+    by : (t : Bool) → cond (not t) bytes [] ≡ cond t [] whole
+    by true = refl
+    by false = e
+
+-- the bit of a field, as the code makes it
+pub field_bit : (b : Bool) (n : ℕ) → n ≡ from_bool b → (n ≡ bit_value b) × (n ≤ 1)
+field_bit true n e = (e, omega arith)
+field_bit false n e = (e, omega arith)
+
+-- a field's length, where it has n bytes
+pub absent_or_long : (value absent : ℕ) (whole : List ℕ) → length (cond (eqb value absent) [] whole) ≡ length whole * from_bool (not (eqb value absent))
+absent_or_long value absent whole = by (eqb value absent)
+  where
+    by : (t : Bool) → length (cond t [] whole) ≡ length whole * from_bool (not t)
+    by true = omega arith
+    by false = omega arith

@@ -1,8 +1,8 @@
 -- Bytes laid into a buffer, one run behind the other.
-use Rattle.std.proofs.Common.{◌≡◌, ℕ, ◌+◌, ◌-◌, ◌≤◌, List, [], ◌++◌, length, take, drop, sym, refl, ap, ◌∙◌, append_assoc, arith, length-append}
+use Rattle.std.proofs.Common.{◌≡◌, ℕ, ◌+◌, ◌-◌, ◌≤◌, List, [], ◌++◌, length, take, drop, sym, refl, ap, ◌∙◌, append_assoc, arith, length-append, length-drop, MutBor}
 use borrow.Rule.Slice.PartMut.{put_mid}
-use Rattle.std.proofs.lemmas.List.{drop-drop, length-take-le, take_at, drop_at}
-use Rattle.message.specs.Buffer.{laid}
+use Rattle.std.proofs.lemmas.List.{take-append-drop, drop-drop, length-take-le, take_at, drop_at}
+use Rattle.message.specs.Buffer.{laid, Put}
 
 -- what a copy into a part of a buffer leaves
 pub laid_by_copy : (buffer bytes copied : List ℕ) (at : ℕ) → copied ≡ bytes → put_mid at ((at + length bytes) - at) buffer copied ≡ laid buffer at bytes
@@ -36,11 +36,25 @@ pub laid_first : (buffer bytes : List ℕ) → laid buffer 0 bytes ≡ bytes ++ 
 unfolding laid
 laid_first buffer bytes = ap (λ n. bytes ++ drop n buffer) (omega arith)
 
-pub laid_nothing : (buffer : List ℕ) (at : ℕ) → laid buffer at [] ≡ take at buffer ++ drop at buffer
+pub laid_nothing : (buffer : List ℕ) (at : ℕ) → laid buffer at [] ≡ buffer
 unfolding laid
-laid_nothing buffer at = ap (λ n. take at buffer ++ drop n buffer) (omega arith)
+laid_nothing buffer at = ap (λ n. take at buffer ++ drop n buffer) (omega arith) ∙ take-append-drop at buffer
 
--- bytes laid behind bytes that were laid: what the buffer holds, and the place behind them
-pub laid_then : (b b' b'' xs ys : List ℕ) (at mid end : ℕ) → at + length xs ≤ length b → b' ≡ laid b at xs → mid ≡ at + length xs → b'' ≡ laid b' mid ys → end ≡ mid + length ys → (b'' ≡ laid b at (xs ++ ys)) × (end ≡ at + length (xs ++ ys))
-laid_then b b' b'' xs ys at mid end room e m f g =
-    (f ∙ (ap (λ l. laid l mid ys) e ∙ (ap (λ n. laid (laid b at xs) n ys) m ∙ laid_more b at xs room ys)), omega (arith, length-append xs ys))
+pub length_laid : (buffer : List ℕ) (at : ℕ) (bytes : List ℕ) → at + length bytes ≤ length buffer → length (laid buffer at bytes) ≡ length buffer
+unfolding laid
+length_laid buffer at bytes room =
+    simp (length-append, length-drop) (omega (arith, length-take-le at buffer (omega arith)))
+
+pub put_nothing : (buffer : MutBor (List ℕ)) (at : ℕ) → Put buffer at [] buffer at
+put_nothing buffer at =
+    record { lender = refl; long = refl; place = omega arith; content = sym (laid_nothing buffer.now at) }
+
+-- bytes put behind bytes that were put
+pub put_then : {b b' b'' : MutBor (List ℕ)} {at at' at'' : ℕ} {xs ys : List ℕ} → at + length xs ≤ length b.now → Put b at xs b' at' → Put b' at' ys b'' at'' → Put b at (xs ++ ys) b'' at''
+put_then {b} {at = at} {at'} {xs = xs} {ys = ys} room p q =
+    record {
+      lender = q.lender ∙ p.lender;
+      long = q.long ∙ p.long;
+      place = omega (arith, length-append xs ys);
+      content = q.content ∙ (ap (λ l. laid l at' ys) p.content ∙ (ap (λ n. laid (laid b.now at xs) n ys) p.place ∙ laid_more b.now at xs room ys));
+    }

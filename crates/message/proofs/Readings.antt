@@ -1,5 +1,5 @@
 -- A message read from the cursor's place on: at each step it is at its end, refused, or one record further.
-use Rattle.std.proofs.Common.{◌≡◌, ℕ, zero, suc, ◌+◌, ◌-◌, ◌<◌, ◌≤◌, ◌⊎◌, List, [], ◌∷◌, length, drop, Some, None, Ok, Err, Result, sym, refl, ap, ◌∙◌, inl, inr, ⊎_elim, arith, length-append, length-drop}
+use Rattle.std.proofs.Common.{◌≡◌, ℕ, zero, suc, ◌+◌, ◌-◌, ◌<◌, ◌≤◌, ◌⊎◌, List, [], ◌∷◌, length, drop, Some, None, Ok, Err, Option, Result, sym, refl, ap, ◌∙◌, inl, inr, ⊎_elim, arith, length-append, length-drop}
 use Rattle.std.proofs.lemmas.List.{drop_all, drop-drop}
 use Rattle.std.proofs.lemmas.Bool.{le-leb, lt-leb, cases_lt}
 use Rattle.message.specs.declared.record.Record.{Record}
@@ -172,3 +172,17 @@ records_refused e = refl
 pub records_item : (at : ℕ) (r : Record) (rest : Reading) → records_of (item at r rest) ≡ behind r (records_of rest)
 unfolding records_of
 records_item at r rest = refl
+
+-- what a step over a lent message answered, where the message and the count of records are known by other names
+module _ (m b : List ℕ) (same : b ≡ m) (at seen n : ℕ) (counted : seen ≡ n) (to then : ℕ) where
+  same_step : step b at seen ≡ step m at n
+  same_step = ap (λ l. step l at seen) same ∙ ap (step m at) counted
+
+  pub read_one : (o : Option Record) (r : Record) → o ≡ Some r → ◌≡◌ {A = Step} (Ok o, to, then) (step b at seen) → Read m at n to then r
+  read_one o r is s = step_read_one m at n to then r (sym (ap (λ (v : Option Record). (Ok v, to, then)) is) ∙ (s ∙ same_step))
+
+  pub read_none : (o : Option Record) → o ≡ None → ◌≡◌ {A = Step} (Ok o, to, then) (step b at seen) → onward m at n ≡ ends
+  read_none o is s = step_ended m at n to then (sym (ap (λ (v : Option Record). (Ok v, to, then)) is) ∙ (s ∙ same_step))
+
+  pub read_fault : (e : Refusal) → ◌≡◌ {A = Step} (Err e, to, then) (step b at seen) → onward m at n ≡ refused e
+  read_fault e s = step_refused m at n to then e (s ∙ same_step)

@@ -55,7 +55,7 @@ read_then_written bytes rs buffer h e room =
     written_whole rs buffer w.few w.law l ∙ ap (λ (x : List ℕ). (Ok (length x), x ++ drop (length x) buffer)) w.bytes
 
 -- lawful records, read back from their bytes
-lawful_first : (r : Record) (rs : List Record) → first_unlawful (r ∷ rs) ≡ None → (lawful r ≡ true) × (first_unlawful rs ≡ None)
+pub lawful_first : (r : Record) (rs : List Record) → first_unlawful (r ∷ rs) ≡ None → (lawful r ≡ true) × (first_unlawful rs ≡ None)
 lawful_first r rs e = on (lawful r) refl e
   where
     none : (o : Option ℕ) → option_map suc o ≡ None → o ≡ None

@@ -1,12 +1,13 @@
 -- One record read from bytes: its map, then the fields whose bit stands.
 --
 --   bit                                    bit k of a map, the lowest is bit 0
+--   field                                  the n bytes of a field, which are `absent` where it does not stand, and the bytes behind them; none where it is not whole
 --   column_field, count_field, node_field  a field that stands is read, one that does not has its value
 --   columns                                the first k columns of the row
 --   fields                                 all fields behind a map, and the bytes behind them; none where one is not whole
 --   allowed                                the map has no unknown bit, and no field that stands holds a forbidden value
 --   decode                                 the record that begins at the byte `at`, and the bytes behind it, or the refusal
-use Rattle.std.specs.Prelude.{ℕ, zero, suc, ◌/◌, ◌%◌, ◌^◌, Bool, true, false, cond, not, ◌&&◌, ◌||◌, List, [], ◌∷◌, ◌++◌, ℤ, pos, Some, None, Ok, Err, Option, Result, ◌==◌, nat_le, nat_lt, slice_index_or}
+use Rattle.std.specs.Prelude.{ℕ, zero, suc, ◌/◌, ◌%◌, ◌^◌, Bool, true, false, cond, not, ◌&&◌, ◌||◌, List, [], ◌∷◌, ◌++◌, length, take, drop, ℤ, pos, Some, None, Ok, Err, Option, Result, ◌==◌, nat_le, nat_lt, slice_index_or}
 use Rattle.message.specs.declared.record.Record.{Record}
 use Rattle.bag.specs.Bytes.{first_four, first_two, first_one}
 use Rattle.bag.specs.Refusal.{Refusal}
@@ -22,6 +23,10 @@ then (Some x) f = f x
 
 abbrev pub bit : ℕ → ℕ → Bool
 bit map k = map / 2 ^ k % 2 == 1
+
+abbrev pub field : ℕ → List ℕ → Bool → List ℕ → Option (List ℕ × List ℕ)
+field n absent true bytes = cond (nat_le n (length bytes)) (Some (take n bytes, drop n bytes)) None
+field n absent false bytes = Some (absent, bytes)
 
 abbrev pub column_field : Bool → List ℕ → Option (ℤ × List ℕ)
 column_field true bytes = first_four bytes

@@ -9,3 +9,4 @@ pub mod Listed
 pub mod Writing
 pub mod RoundTrip
 pub mod Laws
+pub mod Text

@@ -2,12 +2,12 @@
 --
 --   items     its records, in order
 --   listed    an answer with the list's records in the place of the list
-use Rattle.std.specs.Prelude.{List, take, Ok, Err, Result}
+use Rattle.std.specs.Prelude.{List, Ok, Err, Result}
 use Rattle.message.specs.declared.record.Record.{Record}
 use Rattle.message.specs.declared.record_list.RecordList.{RecordList}
 
 abbrev pub items : RecordList → List Record
-items l = take l.len l.records
+items l = l.records.items
 
 abbrev pub listed : {E : Type 0} → Result RecordList E → Result (List Record) E
 listed (Ok l) = Ok (items l)

@@ -1,12 +1,13 @@
 -- The number and the place of every refusal of the reader and of the writer. This is the only place that gives them numbers.
 --
 --   read_refusal    Torn 1, Map 2, Long 3, each at the first byte of the record that is refused
+--   read_text       what is printed of a reader's fault: `refused`, its number, `at` and its place
 --   write_refusal   Long 3 at 1,024; Map 2 at the index of the first unlawful record; Paper 8 at 0
 --   read_told       a reader's answer with its fault as number and place
 --   write_told      a writer's answer, likewise
 --   Told            a refusal where both take part: whose it is, and its number and place
 --   rewrite_told    the answer of a call that reads and writes
-use Rattle.std.specs.Prelude.{Ok, Err, Result}
+use Rattle.std.specs.Prelude.{ℕ, List, ◌++◌, Ok, Err, Result, codes, decimal}
 use Rattle.bag.specs.Refusal.{Refusal, refusal}
 use Rattle.message.specs.Limits.{max_records}
 use Rattle.message.specs.declared.fault.ReadFault.{ReadFault}
@@ -20,6 +21,10 @@ abbrev pub read_refusal : ReadFault → Refusal
 read_refusal (reads.Torn at) = refusal 1 at
 read_refusal (reads.Map at) = refusal 2 at
 read_refusal (reads.Long at) = refusal 3 at
+
+abbrev pub read_text : ReadFault → List ℕ
+read_text f =
+    codes "refused " ++ (decimal (read_refusal f).number ++ (codes " at " ++ decimal (read_refusal f).place))
 
 abbrev pub write_refusal : WriteFault → Refusal
 write_refusal writes.Long = refusal 3 max_records

@@ -1,10 +1,11 @@
-ghost use Rattle.std.specs.Prelude.{◌≡◌};
-ghost use Rattle.message.specs.Refusal.{read_refusal, write_refusal};
+ghost use Rattle.std.specs.Prelude.{◌≡◌, Some};
+ghost use Rattle.message.specs.Refusal.{read_refusal, write_refusal, read_text};
 
 use crate::record::MAX_RECORDS;
+use std::fmt;
 
 // Why a record is not read. `at` is the byte at which the record begins.
-#[derive(Clone, Copy)]
+#[derive(Clone, Copy, PartialEq, Eq, Debug)]
 pub enum ReadFault {
     // The map or a field that it announces is not whole.
     Torn { at: usize },
@@ -15,7 +16,7 @@ pub enum ReadFault {
 }
 
 // Why records are not written.
-#[derive(Clone, Copy)]
+#[derive(Clone, Copy, PartialEq, Eq, Debug)]
 pub enum WriteFault {
     // There are more records than a message may hold.
     Long,
@@ -26,7 +27,7 @@ pub enum WriteFault {
 }
 
 // Why a message is not read and written again.
-#[derive(Clone, Copy)]
+#[derive(Clone, Copy, PartialEq, Eq, Debug)]
 pub enum RewriteFault {
     Read { fault: ReadFault },
     Write { fault: WriteFault },
@@ -47,10 +48,19 @@ impl ReadFault {
         ensures { result ≡ (read_refusal self.now).place }
     {
         match self {
-            ReadFault::Torn { at } => *at,
-            ReadFault::Map { at } => *at,
-            ReadFault::Long { at } => *at,
+            ReadFault::Torn { at } | ReadFault::Map { at } | ReadFault::Long { at } => *at,
         }
+    }
+}
+
+// The refusal as programs print it.
+impl fmt::Display for ReadFault {
+    ghost output = { λ f. Some (read_text f) };
+
+    fn fmt<W: fmt::Write>(&self, f: &mut fmt::Formatter<W>) -> fmt::Result {
+        let number = self.number();
+        let place = self.place();
+        write!(f, "refused {number} at {place}")
     }
 }
 

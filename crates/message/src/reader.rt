@@ -4,6 +4,7 @@ ghost use Rattle.message.specs.Reading.{step};
 
 use crate::fault::ReadFault;
 use crate::field::{allowed, fields_of};
+use crate::map::FieldMap;
 use crate::record::{MAX_RECORDS, Record};
 
 // A cursor over a lent message. `at` is the byte at which the next record begins, `seen` how many records were read.
@@ -32,11 +33,11 @@ impl<'a> Reader<'a> {
     pub fn place(&self) -> usize
         ensures { result ≡ self.now.at }
     {
-        let Reader { at, .. } = self;
-        *at
+        self.at
     }
 
     // The next record, or none at the end. A refusal leaves the cursor where it was.
+    // This is no `Iterator`, since such a one would give the same refusal without end.
     pub fn next(&mut self) -> Result<Option<Record>, ReadFault>
         ensures same { self.new.bytes.now ≡ self.old.bytes.now }
         ensures step { (read_told result, self.new.at, self.new.seen) ≡ step self.old.bytes.now self.old.at self.old.seen }
@@ -51,7 +52,9 @@ impl<'a> Reader<'a> {
         let [high, low, rest @ ..] = &self.bytes[at..] else {
             return Err(ReadFault::Torn { at });
         };
-        let map = u16::from_be_bytes([*high, *low]);
+        let map = FieldMap {
+            bits: u16::from_be_bytes([*high, *low]),
+        };
         let Some((record, rest)) = fields_of(map, rest) else {
             return Err(ReadFault::Torn { at });
         };

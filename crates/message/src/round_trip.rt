@@ -9,6 +9,7 @@ use crate::record::Record;
 use crate::record_list::RecordList;
 use crate::writer::write;
 
+// The two are written by hand, since a derived `From` promises nothing of which fault `?` makes.
 impl From<ReadFault> for RewriteFault {
     ghost from_gives = { λ f r. r ≡ faults.Read f };
 

@@ -2,48 +2,43 @@ ghost use Rattle.std.specs.Prelude.{◌≡◌, ◌≤◌, true, length, IfNone, 
 ghost use Rattle.std.specs.Int.{w32};
 ghost use Rattle.std.specs.List.{AllByRecursion};
 ghost use Rattle.message.specs.Refusal.{write_told};
-ghost use Rattle.message.specs.Lawful.{columns_lawful as columnsLawful, lawful as lawfulRecord, first_unlawful as firstUnlawful, InRange};
+ghost use Rattle.message.specs.Lawful.{column_lawful as columnLawful, columns_lawful as columnsLawful, lawful as lawfulRecord, first_unlawful as firstUnlawful, InRange};
 ghost use Rattle.message.specs.Buffer.{laid};
 ghost use Rattle.message.specs.Encode.{encode_all};
 ghost use Rattle.message.specs.Writing.{written};
 
 use crate::fault::WriteFault;
-use crate::put::{put_record, record_length};
+use crate::put::{Output, record_length};
 use crate::record::{MAX_RECORDS, Record};
 use bag::row::Row;
+
+// It also tells the range of the column, which a comparison within `all` does not.
+fn column_lawful(v: i32) -> bool
+    ensures is { result ≡ columnLawful v }
+    ensures range { result ≡ true → FitsSigned w32 v }
+{
+    v != i32::MIN
+}
 
 fn columns_lawful(row: &Row) -> bool
     ensures is { result ≡ columnsLawful row.now }
     ensures range { result ≡ true → AllByRecursion (FitsSigned w32) row.now }
 {
-    for k in 0..8 {
-        if row[k] == i32::MIN {
-            return false;
-        }
-    }
-    true
+    row.iter().all(|column| column_lawful(*column))
 }
 
 fn lawful(record: &Record) -> bool
     ensures is { result ≡ lawfulRecord «record».now }
     ensures range { result ≡ true → InRange «record».now }
 {
-    if record.count == 0 || record.node > 15 {
-        return false;
-    }
-    columns_lawful(&record.row)
+    record.count >= 1 && record.node <= 15 && columns_lawful(&record.row)
 }
 
 fn first_unlawful(records: &[Record]) -> Option<usize>
     ensures is { result ≡ firstUnlawful records.now }
     ensures range { IfNone result (AllByRecursion InRange records.now) }
 {
-    for i in 0..records.len() {
-        if !lawful(&records[i]) {
-            return Some(i);
-        }
-    }
-    None
+    records.iter().position(|record| !lawful(record))
 }
 
 // How many bytes the records have.
@@ -51,20 +46,16 @@ fn message_length(records: &[Record]) -> usize
     requires { length records.now ≤ 1024 }
     ensures { result ≡ length (encode_all records.now) }
 {
-    let mut total = 0;
-    for i in 0..records.len() {
-        total += record_length(&records[i]);
-    }
-    total
+    records.iter().map(record_length).sum()
 }
 
 fn put_records(buffer: &mut [u8], records: &[Record])
     requires { length (encode_all records.now) ≤ length buffer.old }
     ensures { buffer.new ≡ laid buffer.old 0 (encode_all records.now) }
 {
-    let mut at = 0;
-    for i in 0..records.len() {
-        at = put_record(buffer, at, &records[i]);
+    let mut output = Output::new(buffer);
+    for record in records {
+        output.put_record(record);
     }
 }
 

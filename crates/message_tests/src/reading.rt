@@ -4,10 +4,9 @@ use std::test::Fail;
 
 // How many records a message has, or the number and the place of its refusal.
 fn read(bytes: &[u8]) -> Result<usize, (u8, usize)> {
-    match RecordList::read(bytes) {
-        Ok(list) => Ok(list.records().len()),
-        Err(fault) => Err((fault.number(), fault.place())),
-    }
+    RecordList::read(bytes)
+        .map(|list| list.records().len())
+        .map_err(|fault| (fault.number(), fault.place()))
 }
 
 #[test]

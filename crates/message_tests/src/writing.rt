@@ -24,10 +24,7 @@ fn full() -> Record {
 
 // The message's length, or the number and the place of the refusal.
 fn written(records: &[Record], buffer: &mut [u8]) -> Result<usize, (u8, usize)> {
-    match write(records, buffer) {
-        Ok(length) => Ok(length),
-        Err(fault) => Err((fault.number(), fault.place())),
-    }
+    write(records, buffer).map_err(|fault| (fault.number(), fault.place()))
 }
 
 #[test]

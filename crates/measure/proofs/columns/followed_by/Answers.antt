@@ -1,12 +1,14 @@
-use Rattle.std.proofs.Common.{◌++◌, take}
-use Rattle.bag.specs.Columns.{followed}
-use Rattle.measure.specs.Rows.{filled_step, filled_all}
+use Rattle.std.proofs.Common.{◌++◌, ◌-◌, take, ap, arith, ◌∙◌, sym}
+use Rattle.std.proofs.lemmas.List.{take_all}
+use Rattle.std.proofs.lemmas.Slice.{take-put_mid}
+use Rattle.std.proofs.lemmas.Grind.{common_steps}
+use Rattle.measure.proofs.RowParts.{first_then_next}
 use Rattle.measure.proofs.columns.followed_by.Goals as goal
 
-pub loop-i-preserved : goal.loop-i-preserved
-loop-i-preserved c =
-    filled_step (followed c.args.width c.args.front.now c.args.behind.now) c.loop-i.row c.loop-i.i c.column_followed.result (record { sfits = c.column_followed.type_inv }) c.loop-i-test.true c.loop-i.invariant
-    c.column_followed.ensures
-
 pub returns : goal.returns
-returns c = filled_all (take c.args.width c.args.front.now ++ c.args.behind.now) c.loop-i.row c.loop-i.i c.loop-i-test.false c.loop-i.invariant
+returns c =
+    let front = c.args.front.now in
+    let kept = c.min-kept.result in
+    sym (take_all 8 _ (grind (arith, common_steps))) ∙ take-put_mid kept (8 - kept) front c.copy_from_slice.new.self 8 (grind (arith, common_steps)) (omega arith)
+    ∙ ap (λ xs. take kept front ++ xs) c.copy_from_slice.ensures.after
+    ∙ first_then_next c.args.width kept front c.args.behind.now c.told-front c.told-behind c.min-kept.ensures

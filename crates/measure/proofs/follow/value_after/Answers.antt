@@ -3,11 +3,10 @@ use Rattle.measure.specs.Follow.{lines_of}
 use Rattle.measure.proofs.FollowLaws.{value_follows}
 use Rattle.measure.proofs.follow.value_after.Goals as goal
 
-pub returns : goal.returns
-returns g c = record {
-  answer = simp (c.plus.ensures, c.value_over.ensures);
-  follows = λ before after m e.
-      c.plus.ensures ∙ ap₂ g.M.Measure.model.group.plus e c.value_over.ensures
-      ∙ sym (value_follows g.M.Measure.model g.met.M.Measure.lawful c.args.column before (lines_of c.args.changes.now) after m);
-  law = value_follows g.M.Measure.model g.met.M.Measure.lawful c.args.column;
-}
+pub returns-clause-follows : goal.returns-clause-follows
+returns-clause-follows g c before after m e =
+    c.plus.ensures ∙ ap₂ g.M.Measure.model.group.plus e c.value_over.ensures
+    ∙ sym (value_follows g.M.Measure.model g.met.M.Measure.lawful c.args.column before (lines_of c.args.changes.now) after m)
+
+pub returns-clause-law : goal.returns-clause-law
+returns-clause-law g c = value_follows g.M.Measure.model g.met.M.Measure.lawful c.args.column

@@ -27,7 +27,7 @@ returns-in_err-length c =
     let b = c.args.buffer.now in
     let rs = items c.in_ok-list.list in
     let h : Bytes m = All-from_get_or _ m 0 (λ i l. search rules) in
-    let r = c.records.ensures in
+    let r = c.records.ensures.answer in
     rw (p.1, p.2) (ap told (c.in_err-length.ensures.answer ∙ ap (λ l. written l b) r) ∙ rewritten_is m b rs h c.in_ok-list.ensures)
 
 pub returns : goal.returns
@@ -36,5 +36,5 @@ returns c =
     let b = c.args.buffer.now in
     let rs = items c.in_ok-list.list in
     let h : Bytes m = All-from_get_or _ m 0 (λ i l. search rules) in
-    let r = c.records.ensures in
+    let r = c.records.ensures.answer in
     ap told (c.in_ok-length.ensures.answer ∙ ap (λ l. written l b) r) ∙ rewritten_is m b rs h c.in_ok-list.ensures

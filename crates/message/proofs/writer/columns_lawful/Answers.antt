@@ -1,31 +1,18 @@
-use Rattle.std.proofs.Common.{◌≡◌, ◌+◌, ◌<◌, true, false, length, get_or, take, pos, sym, subst, arith, w32, SFits, rules}
-use Rattle.std.specs.List.{AllByRecursion}
-use Rattle.std.proofs.ByRecursion.{All-more}
-use Rattle.std.proofs.lemmas.Bool.{false≢true}
-use Rattle.std.proofs.lemmas.List.{take_all}
-use Rattle.message.proofs.Lawfulness.{smallest_by_bits, other_by_bits, lawful_more, unlawful_front}
+use Rattle.std.proofs.Common.{◌≡◌, false, w32, SFits, ◌∙◌, rules}
+use borrow.Author.Tests.{tests}
+use Rattle.std.proofs.lemmas.Iterator.{YieldsList-from_slice, cases_from_all}
+use Rattle.std.proofs.lemmas.Iterator.Search.{all_from_yields_List}
+use Rattle.std.proofs.lemmas.List.Elements.{recursion_from_All, All-from_all_within}
+use Rattle.message.specs.Lawful.{column_lawful}
+use Rattle.message.proofs.Lawfulness.{all_lawful, where_true}
 use Rattle.message.proofs.writer.columns_lawful.Goals as goal
 
-pub returns-then-row-k : goal.returns-then-row-k
-returns-then-row-k c =
-    let row = c.args.row.now in
-    let k = c.loop-k.k in
-    let lt : k < length row = omega arith in
-    let f : SFits w32 (get_or row k (pos 0)) = search rules in
-    record {
-      is = sym (unlawful_front row (k + 1) (lawful_more row k lt c.loop-k.invariant.0 false (smallest_by_bits (get_or row k (pos 0)) f c.if-row-k.true)));
-      range = λ e. absurd (false≢true e);
-    }
+pub returns-clause-is : goal.returns-clause-is
+returns-clause-is c =
+    all_from_yields_List column_lawful _ _ c.all.result c.all.ensures.ran (YieldsList-from_slice c.args.row.now cc) (λ x b q k. search (rules, tests))
+    ∙ all_lawful c.args.row.now
 
-pub loop-k-preserved : goal.loop-k-preserved
-loop-k-preserved c =
-    let row = c.args.row.now in
-    let k = c.loop-k.k in
-    let lt : k < length row = omega arith in
-    let f : SFits w32 (get_or row k (pos 0)) = search rules in
-    (lawful_more row k lt c.loop-k.invariant.0 true (other_by_bits (get_or row k (pos 0)) f c.if-row-k.false), All-more (SFits w32) row k (pos 0) lt c.loop-k.invariant.1 f)
-
-pub returns : goal.returns
-returns c =
-    let e : take c.loop-k.k c.args.row.now ≡ c.args.row.now = take_all c.loop-k.k c.args.row.now (omega arith) in
-    record { is = sym (rw e at c.loop-k.invariant.0); range = λ _. subst (AllByRecursion (SFits w32)) e c.loop-k.invariant.1 }
+pub returns-clause-range : goal.returns-clause-range
+returns-clause-range c =
+    let h = cases_from_all _ _ c.all.result (SFits w32) (λ v. column_lawful v ≡ false) c.all.ensures.ran (YieldsList-from_slice c.args.row.now cc) (λ x q k. search (rules, tests)) (λ x q k. search (rules, tests)) in
+    where_true _ c.all.result h (λ a. recursion_from_All (SFits w32) _ (All-from_all_within (SFits w32) _ a))

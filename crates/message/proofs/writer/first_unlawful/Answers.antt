@@ -1,31 +1,18 @@
-use Rattle.std.proofs.Common.{sym, ap, ◌∙◌, subst, arith}
-use Rattle.std.specs.List.{AllByRecursion}
-use Rattle.std.proofs.ByRecursion.{All-more}
-use Rattle.std.proofs.lemmas.List.{drop_all, take_all}
-use Rattle.message.specs.Lawful.{first_unlawful, InRange}
-use Rattle.message.proofs.Encoded.{none}
-use Rattle.message.proofs.Lawfulness.{from, from_start, unlawful_here, unlawful_later}
+use Rattle.std.proofs.Common.{◌≡◌, false, not, ◌∙◌, rules}
+use borrow.Author.Tests.{tests}
+use Rattle.std.proofs.lemmas.Iterator.{YieldsList-from_slice, IsFirst-from_position}
+use Rattle.std.proofs.lemmas.Iterator.Search.{position_from_yields_List}
+use Rattle.std.proofs.lemmas.List.Elements.{recursion_from_All, All-from_all_within}
+use Rattle.message.specs.Lawful.{lawful, InRange}
+use Rattle.message.proofs.Lawfulness.{first_is, where_none}
 use Rattle.message.proofs.writer.first_unlawful.Goals as goal
 
-pub loop-i-init : goal.loop-i-init
-loop-i-init c = (from_start (first_unlawful c.args.records.now), tt)
+pub returns-clause-is : goal.returns-clause-is
+returns-clause-is c =
+    position_from_yields_List (λ r. not (lawful r)) _ _ _ c.position.ensures.ran (YieldsList-from_slice c.args.records.now cc) (λ x b q k. search (rules, tests))
+    ∙ first_is c.args.records.now
 
-pub returns-then-not-lawful : goal.returns-then-not-lawful
-returns-then-not-lawful c =
-    record {
-      is = sym (unlawful_here c.args.records.now c.loop-i.i none c.loop-i-test.true (sym c.if-not-lawful.ensures.is)) ∙ c.loop-i.invariant.0;
-      range = tt;
-    }
-
-pub loop-i-preserved : goal.loop-i-preserved
-loop-i-preserved c = (
-  sym (unlawful_later c.args.records.now c.loop-i.i none c.loop-i-test.true (sym c.if-not-lawful.ensures.is)) ∙ c.loop-i.invariant.0,
-  All-more InRange c.args.records.now c.loop-i.i none c.loop-i-test.true c.loop-i.invariant.1 (c.lawful.ensures.range c.if-not-lawful.false),
-)
-
-pub returns : goal.returns
-returns c =
-    record {
-      is = sym (ap (λ l. from c.loop-i.i (first_unlawful l)) (drop_all c.loop-i.i c.args.records.now (omega arith))) ∙ c.loop-i.invariant.0;
-      range = subst (AllByRecursion InRange) (take_all c.loop-i.i c.args.records.now (omega arith)) c.loop-i.invariant.1;
-    }
+pub returns-clause-range : goal.returns-clause-range
+returns-clause-range c =
+    let h = IsFirst-from_position _ _ c.position.result (λ r. lawful r ≡ false) InRange c.position.ensures.ran (YieldsList-from_slice c.args.records.now cc) (λ x q k. search (rules, tests)) (λ x q k. search (rules, tests)) in
+    where_none _ c.position.result h (λ a. recursion_from_All InRange _ (All-from_all_within InRange _ a))

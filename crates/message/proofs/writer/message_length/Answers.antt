@@ -1,16 +1,12 @@
-use Rattle.std.proofs.Common.{◌≡◌, take, arith}
-use Rattle.std.proofs.lemmas.List.{take_all}
+use Rattle.std.proofs.Common.{length, sym, ◌∙◌, rules}
+use Rattle.std.proofs.lemmas.Iterator.{YieldsList-from_slice, YieldsList-from_map}
+use Rattle.std.proofs.lemmas.Iterator.Consumers.{YieldsList-at, sum_by_from_yields_List}
+use Rattle.std.proofs.lemmas.List.Concat.{length-flat_map}
 use Rattle.message.specs.Encode.{encode}
-use Rattle.message.proofs.Encoded.{none}
-use Rattle.message.proofs.Joins.{length_joined_step}
 use Rattle.message.proofs.writer.message_length.Goals as goal
-
-pub loop-i-preserved : goal.loop-i-preserved
-loop-i-preserved c =
-    let s = length_joined_step encode c.args.records.now c.loop-i.i none c.loop-i-test.true in
-    (omega arith, omega arith)
 
 pub returns : goal.returns
 returns c =
-    let e : take c.loop-i.i c.args.records.now ≡ c.args.records.now = take_all c.loop-i.i c.args.records.now (omega arith) in
-    rw e at c.loop-i.invariant.0
+    let rs = c.args.records.now in
+    sum_by_from_yields_List (λ r. length (encode r)) rs c.map.result c.sum.result c.sum.ensures.ran (YieldsList-from_map _ (λ r. length (encode r)) (YieldsList-at c.map.ensures.source (YieldsList-from_slice rs cc)) c.map.ensures.closure (λ x r q k. search rules))
+    ∙ sym (length-flat_map encode rs)

@@ -1,0 +1,6 @@
+use Rattle.bag.specs.Order.{row_order}
+use Rattle.bag.proofs.lines.ChangeLine.compare_keys.Goals as goal
+
+pub returns : goal.returns
+unfolding row_order
+returns c = c.cmp.ensures
