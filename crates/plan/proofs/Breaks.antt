@@ -41,8 +41,8 @@ here s k i ws bytes e c f none beyond =
 
 stopped : (steps k i : ℕ) (ws bytes : List ℕ) (e : Refusal) → Bytes bytes → nodes steps k i ws bytes ≡ Err e → Stopped steps k i ws bytes e
 unfolding nodes lawful widths
-stopped zero k i ws [] e h f = let z : ◌≡◌ {A = ℕ} 0 1 = cc in absurd (omega arith)
-stopped (suc s) k i ws [] e h f = let z : ◌≡◌ {A = ℕ} 0 1 = cc in absurd (omega arith)
+stopped zero k i ws [] e h f = cc
+stopped (suc s) k i ws [] e h f = cc
 stopped zero k i ws (b ∷ bytes) e h f = here zero k i ws (b ∷ bytes) e causes.Nodes f (λ x ys l _ _ _. absurd (omega arith)) (omega arith)
 stopped (suc s) k i ws (b ∷ bytes) e h f = on (node k ws (b ∷ bytes)) refl f (λ j vs ys t g. stopped s k j vs ys e t g)
   where
@@ -51,7 +51,7 @@ stopped (suc s) k i ws (b ∷ bytes) e h f = on (node k ws (b ∷ bytes)) refl f
         let q = (node_caused ws k (b ∷ bytes)).by c d in
         let g : ◌≡◌ {A = Result (List Node) Refusal} (Err (plan_refusal (fault_at i q.0))) (Err e) = subst (λ m. ◌≡◌ {A = Result (List Node) Refusal} (Err (refused i m)) (Err e)) q.1 f in
         here (suc s) k i ws (b ∷ bytes) e q.0 g
-        (λ x ys l u v q. let r : node k ws (b ∷ bytes) ≡ Ok (x, ys) = ap (node k ws) q ∙ node_read k ws x ys u v in let z : ◌≡◌ {A = ℕ} 0 1 = cc in omega arith)
+        (λ x ys l u v q. let r : node k ws (b ∷ bytes) ≡ Ok (x, ys) = ap (node k ws) q ∙ node_read k ws x ys u v in cc)
         (omega arith)
     on (Ok p) d f again =
         let x = p.0 in

@@ -1,5 +1,5 @@
 -- A reader's refusal is the number of a cause.
-use Rattle.std.proofs.Common.{◌≡◌, ℕ, zero, suc, Bool, true, false, cond, eqb, List, [], ◌∷◌, get_or, Ok, Err, Result, ap, arith}
+use Rattle.std.proofs.Common.{◌≡◌, ℕ, zero, suc, Bool, true, false, cond, eqb, List, [], ◌∷◌, get_or, Ok, Err, Result, ap}
 use Rattle.bag.specs.declared.condition.Relation.TheVariants.{Less, LessOrEqual, Equal, NotEqual, GreaterOrEqual, Greater}
 use Rattle.plan.specs.declared.fault.Cause.{Cause}
 use Rattle.plan.specs.declared.fault.Cause.TheVariants as causes
@@ -11,7 +11,7 @@ pub record Caused {X : Type 0} (r : Result X ℕ) : Type 0 where
   pub by : (e : ℕ) → r ≡ Err e → (c : Cause) × (e ≡ cause_number c)
 
 good : {X : Type 0} (x : X) → Caused (Ok x)
-good x = record { by = λ e f. let z : ◌≡◌ {A = ℕ} 0 1 = cc in absurd (omega arith) }
+good x = record { by = λ e f. cc }
 
 bad : {X : Type 0} (c : Cause) → Caused {X = X} (Err (cause_number c))
 bad c = record { by = λ e f. (c, cc) }

@@ -73,33 +73,33 @@ module _ (k : ℕ) (ws : List ℕ) (few : length ws ≤ 16) (thin : Narrow ws) w
       let m = most c p.0 in
       let l = ltb-true a (get_or ws c 0) q.0 in
       (omega arith, (low c p.0, (omega arith, (relation_byte r, operand_is_bytes (get_or ws c 0) o m q.1))))
-  node_bytes (Pick c n cs) e =
+  node_bytes (Pick c cs) e =
       let p = and_parts (ltb c (length ws)) _ e in
-      let q = and_parts (leb 1 n && leb n 8) _ p.1 in
-      let l = leb-true n 8 (and_parts (leb 1 n) (leb n 8) q.0).1 in
-      (omega arith, (low c p.0, (omega arith, columns_bytes (get_or ws c 0) (take n cs) (most c p.0) (listed_fit 8 (λ a. ltb a (get_or ws c 0)) (λ a. eqb a 0) n cs q.1))))
-  node_bytes (Pair l r n ps) e =
+      let q = and_parts (leb 1 cs.count && leb cs.count 8) _ p.1 in
+      let l = leb-true cs.count 8 (and_parts (leb 1 cs.count) (leb cs.count 8) q.0).1 in
+      (omega arith, (low c p.0, (omega arith, columns_bytes (get_or ws c 0) (take cs.count cs.places) (most c p.0) (listed_fit 8 (λ a. ltb a (get_or ws c 0)) (λ a. eqb a 0) cs.count cs.places q.1))))
+  node_bytes (Pair l r ps) e =
       let p = and_parts (ltb l (length ws)) _ e in
       let q = and_parts (ltb r (length ws)) _ p.1 in
-      let s = and_parts (leb n 4) _ q.1 in
-      let t = and_parts (pairs_fit n (get_or ws l 0) (get_or ws r 0) ps) _ s.1 in
-      let h = leb-true n 4 s.0 in
-      (omega arith, (low l p.0, (low r q.0, (omega arith, pairs_bytes (get_or ws l 0) (get_or ws r 0) (take n ps) (most l p.0) (most r q.0) (listed_fit 4 (pair_fits (get_or ws l 0) (get_or ws r 0)) _ n ps t.0)))))
+      let s = and_parts (leb ps.count 4) _ q.1 in
+      let t = and_parts (pairs_fit ps.count (get_or ws l 0) (get_or ws r 0) ps.places) _ s.1 in
+      let h = leb-true ps.count 4 s.0 in
+      (omega arith, (low l p.0, (low r q.0, (omega arith, pairs_bytes (get_or ws l 0) (get_or ws r 0) (take ps.count ps.places) (most l p.0) (most r q.0) (listed_fit 4 (pair_fits (get_or ws l 0) (get_or ws r 0)) _ ps.count ps.places t.0)))))
   node_bytes (Both l r) e =
       let p = and_parts (ltb l (length ws)) _ e in
       (omega arith, (low l p.0, (low r (and_parts (ltb r (length ws)) _ p.1).0, tt)))
   node_bytes (Less l r) e =
       let p = and_parts (ltb l (length ws)) _ e in
       (omega arith, (low l p.0, (low r (and_parts (ltb r (length ws)) _ p.1).0, tt)))
-  node_bytes (Total c j n cs) e =
+  node_bytes (Total c j cs) e =
       let p = and_parts (ltb c (length ws)) _ e in
       let q = and_parts (ltb j (get_or ws c 0)) _ p.1 in
-      let s = and_parts (leb n 7) _ q.1 in
-      let t = and_parts (columns_fit n (get_or ws c 0) cs) _ s.1 in
+      let s = and_parts (leb cs.count 7) _ q.1 in
+      let t = and_parts (columns_fit cs.count (get_or ws c 0) cs.places) _ s.1 in
       let m = most c p.0 in
       let l = ltb-true j (get_or ws c 0) q.0 in
-      let h = leb-true n 7 s.0 in
-      (omega arith, (low c p.0, (omega arith, (omega arith, columns_bytes (get_or ws c 0) (take n cs) m (listed_fit 8 (λ a. ltb a (get_or ws c 0)) (λ a. eqb a 0) n cs t.0)))))
+      let h = leb-true cs.count 7 s.0 in
+      (omega arith, (low c p.0, (omega arith, (omega arith, columns_bytes (get_or ws c 0) (take cs.count cs.places) m (listed_fit 8 (λ a. ltb a (get_or ws c 0)) (λ a. eqb a 0) cs.count cs.places t.0)))))
 
 nodes_bytes : (k : ℕ) (ws : List ℕ) (xs : List Node) → length ws + length xs ≤ 16 → Narrow ws → lawful k ws xs ≡ true → Bytes (encode_all xs)
 unfolding lawful

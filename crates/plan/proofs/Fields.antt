@@ -16,7 +16,7 @@ use Rattle.plan.specs.Encode.{relation_number, operand_bytes, pair_bytes}
 use Rattle.plan.proofs.Items.{then_ok, when_ok, ok_same, listed_was, listed_read}
 
 pub octet_was : (bytes : List ℕ) (p : ℕ × List ℕ) → octet bytes ≡ Ok p → bytes ≡ p.0 ∷ p.1
-octet_was [] p e = let z : ◌≡◌ {A = ℕ} 0 1 = cc in absurd (omega arith)
+octet_was [] p e = cc
 octet_was (b ∷ bytes) p e = ap (λ (q : ℕ × List ℕ). q.0 ∷ q.1) (ok_same (b, bytes) p e)
 
 -- a byte under a test
@@ -53,7 +53,7 @@ relation_was b r e =
     (λ e3. by_number b 3 _ _ r P e3 (is 3 NotEqual refl)
     (λ e4. by_number b 4 _ _ r P e4 (is 4 GreaterOrEqual refl)
     (λ e5. by_number b 5 _ _ r P e5 (is 5 Greater refl)
-    (λ e6. let z : ◌≡◌ {A = ℕ} 0 1 = cc in absurd (omega arith)))))))
+    (λ e6. cc))))))
 
 pub relation_read : (r : Relation) → relation (relation_number r) ≡ Ok r
 relation_read Less = refl
@@ -101,10 +101,10 @@ pub record OperandWas (w : ℕ) (bytes : List ℕ) (o : Operand) (rest : List �
   pub range : Bytes bytes → operand_in_range o
 
 word_was : (w : ℕ) (bytes : List ℕ) (p : Operand × List ℕ) → word bytes ≡ Ok p → OperandWas w (0 ∷ bytes) p.0 p.1
-word_was w [] p e = let z : ◌≡◌ {A = ℕ} 0 1 = cc in absurd (omega arith)
-word_was w (a ∷ []) p e = let z : ◌≡◌ {A = ℕ} 0 1 = cc in absurd (omega arith)
-word_was w (a ∷ b ∷ []) p e = let z : ◌≡◌ {A = ℕ} 0 1 = cc in absurd (omega arith)
-word_was w (a ∷ b ∷ c ∷ []) p e = let z : ◌≡◌ {A = ℕ} 0 1 = cc in absurd (omega arith)
+word_was w [] p e = cc
+word_was w (a ∷ []) p e = cc
+word_was w (a ∷ b ∷ []) p e = cc
+word_was w (a ∷ b ∷ c ∷ []) p e = cc
 word_was w (a ∷ b ∷ c ∷ d ∷ rest) p e =
     subst (λ (q : Operand × List ℕ). OperandWas w (0 ∷ a ∷ b ∷ c ∷ d ∷ rest) q.0 q.1) (ok_same (Constant (to_z w32 (a * 16777216 + b * 65536 + c * 256 + d)), rest) p e)
     (record { fit = refl; split = λ h. ap (λ ys. 0 ∷ (ys ++ rest)) (sym (four_written a b c d h.1.0 h.1.1.0 h.1.1.1.0 h.1.1.1.1.0)); range = λ h. four_fits a b c d h.1.0 h.1.1.0 h.1.1.1.0 h.1.1.1.1.0 })
@@ -122,7 +122,7 @@ operand_was w bytes p e =
     let q = ok_same (Column b.0.0, b.0.1) p b.2 in
     subst (λ (r : Operand × List ℕ). OperandWas w bytes r.0 r.1) q
     (record { fit = g.1; split = λ _. s ∙ (ap (λ n. n ∷ a.0.1) z ∙ ap (λ ys. 1 ∷ ys) g.0); range = λ _. tt }))
-    (λ e2. let z : ◌≡◌ {A = ℕ} 0 1 = cc in absurd (omega arith)))
+    (λ e2. cc))
 
 pub operand_read : (w : ℕ) (o : Operand) (rest : List ℕ) → operand_fits w o ≡ true → operand_in_range o → operand w (operand_bytes o ++ rest) ≡ Ok (o, rest)
 operand_read w (Constant v) rest e f = word_read v rest f

@@ -59,26 +59,26 @@ between n a b e = let p = and_parts (leb a n) (leb n b) e in (leb-true a n p.0, 
 pub fit_narrow : (k : ℕ) (ws : List ℕ) (x : Node) → Narrow ws → fits k ws x ≡ true → OneToEight (width k ws x)
 fit_narrow k ws (Base w) n e = let b = between w 1 8 e in record { some = b.0; narrow = b.1 }
 fit_narrow k ws (Keep c a r o) n e = n c (ltb-true c (length ws) (and_parts (ltb c (length ws)) _ e).0)
-fit_narrow k ws (Pick c m cs) n e =
+fit_narrow k ws (Pick c cs) n e =
     let p = and_parts (ltb c (length ws)) _ e in
-    let q = and_parts (leb 1 m && leb m 8) _ p.1 in
-    let b = between m 1 8 q.0 in
+    let q = and_parts (leb 1 cs.count && leb cs.count 8) _ p.1 in
+    let b = between cs.count 1 8 q.0 in
     record { some = b.0; narrow = b.1 }
-fit_narrow k ws (Pair l r m ps) n e =
+fit_narrow k ws (Pair l r ps) n e =
     let p = and_parts (ltb l (length ws)) _ e in
     let q = and_parts (ltb r (length ws)) _ p.1 in
-    let s = and_parts (leb m 4) _ q.1 in
-    let t = and_parts (pairs_fit m (get_or ws l 0) (get_or ws r 0) ps) _ s.1 in
+    let s = and_parts (leb ps.count 4) _ q.1 in
+    let t = and_parts (pairs_fit ps.count (get_or ws l 0) (get_or ws r 0) ps.places) _ s.1 in
     let left = (n l (ltb-true l (length ws) p.0)).some in
     record { some = omega arith; narrow = leb-true (get_or ws l 0 + get_or ws r 0) 8 t.1 }
 fit_narrow k ws (Both l r) n e = n l (ltb-true l (length ws) (and_parts (ltb l (length ws)) _ e).0)
 fit_narrow k ws (Less l r) n e = n l (ltb-true l (length ws) (and_parts (ltb l (length ws)) _ e).0)
-fit_narrow k ws (Total c j m cs) n e =
+fit_narrow k ws (Total c j cs) n e =
     let p = and_parts (ltb c (length ws)) _ e in
     let q = and_parts (ltb j (get_or ws c 0)) _ p.1 in
-    let s = and_parts (leb m 7) _ q.1 in
-    let t = and_parts (columns_fit m (get_or ws c 0) cs) _ s.1 in
-    record { some = omega arith; narrow = leb-true (m + 1 + k) 8 t.1 }
+    let s = and_parts (leb cs.count 7) _ q.1 in
+    let t = and_parts (columns_fit cs.count (get_or ws c 0) cs.places) _ s.1 in
+    record { some = omega arith; narrow = leb-true (cs.count + 1 + k) 8 t.1 }
 
 pub narrow_none : Narrow []
 narrow_none j h = absurd (omega arith)
@@ -100,7 +100,7 @@ pub widths_one_to_eight : WidthsOneToEight
 widths_one_to_eight k xs e i h = let n : length (widths k [] xs) ≡ length xs = widths_length k [] xs ∙ omega arith in widths_narrow k [] xs narrow_none e i (omega arith)
 
 -- the widths of the first nodes come first
-widths_front : (k : ℕ) (ws : List ℕ) (xs : List Node) → take (length ws) (widths k ws xs) ≡ ws
+pub widths_front : (k : ℕ) (ws : List ℕ) (xs : List Node) → take (length ws) (widths k ws xs) ≡ ws
 unfolding widths
 widths_front k ws [] = take_all (length ws) ws (omega arith)
 widths_front k ws (y ∷ ys) =

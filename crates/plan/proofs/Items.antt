@@ -9,11 +9,11 @@ use Rattle.plan.specs.Fields.{Read, then, when, items, padded, listed}
 -- what was read before a good answer
 pub then_ok : {X Y : Type 0} (r : Result X ℕ) (f : X → Result Y ℕ) (y : Y) → then r f ≡ Ok y → (x : X) × (r ≡ Ok x) × (f x ≡ Ok y)
 then_ok (Ok x) f y e = (x, refl, e)
-then_ok (Err c) f y e = let z : ◌≡◌ {A = ℕ} 0 1 = cc in absurd (omega arith)
+then_ok (Err c) f y e = cc
 
 pub when_ok : {X : Type 0} (b : Bool) (c : ℕ) (x y : X) → when b c x ≡ Ok y → (b ≡ true) × (x ≡ y)
 when_ok true c x y e = (refl, cc)
-when_ok false c x y e = let z : ◌≡◌ {A = ℕ} 0 1 = cc in absurd (omega arith)
+when_ok false c x y e = cc
 
 pub ok_same : {X : Type 0} (x y : X) → ◌≡◌ {A = Result X ℕ} (Ok x) (Ok y) → x ≡ y
 ok_same x y e = cc
@@ -62,7 +62,7 @@ module _ {X : Type 0} (reader : List ℕ → Read X) (code : X → List ℕ) (te
     listed_was each is-blank n bytes l h e = on (items reader n bytes) refl e
       where
         on : (o : Read (List X)) → items reader n bytes ≡ o → listed size b o ≡ Ok l → (bytes ≡ flat_map code (take n l.0) ++ l.1) × (list_fits size test blank n l.0 ≡ true)
-        on (Err c) f e = let z : ◌≡◌ {A = ℕ} 0 1 = cc in absurd (omega arith)
+        on (Err c) f e = cc
         on (Ok xs) f e =
             let w = items_was each n bytes xs f in
             let s = ok_same (padded size b xs.0, xs.1) l e in

@@ -1,4 +1,3 @@
-pub mod Cuts
 pub mod Fillings
 pub mod Growth
 pub mod Taken

@@ -58,7 +58,7 @@ pick_was k ws bytes p e =
     let a' = lower_was ws bytes a.0 a.1 in
     let b' = within_was 1 8 a.0.1 b.0 b.1 in
     let d' = columns_was b.0.0 w b.0.1 d.0 (most 1 8 b.0.0 b'.1) d.1 in
-    subst (λ (q : Node × List ℕ). Was k ws (2 ∷ bytes) q.0 q.1) (ok_same (Pick a.0.0 b.0.0 d.0.0, d.0.1) p d.2)
+    subst (λ (q : Node × List ℕ). Was k ws (2 ∷ bytes) q.0 q.1) (ok_same (Pick a.0.0 (record { count = b.0.0; places = d.0.0 }), d.0.1) p d.2)
     (record {
       fit = and_from (ltb a.0.0 (length ws)) _ a'.1 (and_from (leb 1 b.0.0 && leb b.0.0 8) (columns_fit b.0.0 w d.0.0) b'.1 d'.1);
       split = λ s. ap (λ ys. 2 ∷ ys) (a'.0 ∙ ap (λ ys. a.0.0 ∷ ys) (b'.0 ∙ ap (λ ys. b.0.0 ∷ ys) d'.0));
@@ -73,7 +73,7 @@ pair_was k ws bytes p e =
     let wr = get_or ws b.0.0 0 in
     let d = then_ok (within 0 4 b.0.1) _ p b.2 in
     let g = then_ok (pairs d.0.0 wl wr d.0.1) _ p d.2 in
-    let h = when_ok (leb (wl + wr) 8) bad_width (Pair a.0.0 b.0.0 d.0.0 g.0.0, g.0.1) p g.2 in
+    let h = when_ok (leb (wl + wr) 8) bad_width (Pair a.0.0 b.0.0 (record { count = d.0.0; places = g.0.0 }), g.0.1) p g.2 in
     let a' = lower_was ws bytes a.0 a.1 in
     let b' = lower_was ws a.0.1 b.0 b.1 in
     let d' = within_was 0 4 b.0.1 d.0 d.1 in
@@ -85,29 +85,29 @@ pair_was k ws bytes p e =
       range = λ s. tt;
     })
 
-sides_was : (ws bytes : List ℕ) (p : ℕ × ℕ × List ℕ) → equal_sides ws bytes ≡ Ok p → (bytes ≡ p.0 ∷ p.1 ∷ p.2) × ((ltb p.0 (length ws) && (ltb p.1 (length ws) && eqb (get_or ws p.0 0) (get_or ws p.1 0))) ≡ true)
+sides_was : (ws bytes : List ℕ) (p : (ℕ × ℕ) × List ℕ) → equal_sides ws bytes ≡ Ok p → (bytes ≡ p.0.0 ∷ p.0.1 ∷ p.1) × ((ltb p.0.0 (length ws) && (ltb p.0.1 (length ws) && eqb (get_or ws p.0.0 0) (get_or ws p.0.1 0))) ≡ true)
 sides_was ws bytes p e =
     let a = then_ok (lower ws bytes) _ p e in
     let b = then_ok (lower ws a.0.1) _ p a.2 in
     let same = eqb (get_or ws a.0.0 0) (get_or ws b.0.0 0) in
-    let h = when_ok same bad_width (a.0.0, b.0.0, b.0.1) p b.2 in
+    let h = when_ok same bad_width ((a.0.0, b.0.0), b.0.1) p b.2 in
     let a' = lower_was ws bytes a.0 a.1 in
     let b' = lower_was ws a.0.1 b.0 b.1 in
-    subst (λ (q : ℕ × ℕ × List ℕ). (bytes ≡ q.0 ∷ q.1 ∷ q.2) × ((ltb q.0 (length ws) && (ltb q.1 (length ws) && eqb (get_or ws q.0 0) (get_or ws q.1 0))) ≡ true)) h.1
+    subst (λ (q : (ℕ × ℕ) × List ℕ). (bytes ≡ q.0.0 ∷ q.0.1 ∷ q.1) × ((ltb q.0.0 (length ws) && (ltb q.0.1 (length ws) && eqb (get_or ws q.0.0 0) (get_or ws q.0.1 0))) ≡ true)) h.1
     (a'.0 ∙ ap (λ ys. a.0.0 ∷ ys) b'.0, and_from (ltb a.0.0 (length ws)) _ a'.1 (and_from (ltb b.0.0 (length ws)) same b'.1 h.0))
 
 both_was : (k : ℕ) (ws bytes : List ℕ) (p : Node × List ℕ) → both ws bytes ≡ Ok p → Was k ws (4 ∷ bytes) p.0 p.1
 both_was k ws bytes p e =
     let a = then_ok (equal_sides ws bytes) _ p e in
     let t = sides_was ws bytes a.0 a.1 in
-    subst (λ (q : Node × List ℕ). Was k ws (4 ∷ bytes) q.0 q.1) (ok_same (Both a.0.0 a.0.1, a.0.2) p a.2)
+    subst (λ (q : Node × List ℕ). Was k ws (4 ∷ bytes) q.0 q.1) (ok_same (Both a.0.0.0 a.0.0.1, a.0.1) p a.2)
     (record { fit = t.1; split = λ s. ap (λ ys. 4 ∷ ys) t.0; range = λ s. tt })
 
 less_was : (k : ℕ) (ws bytes : List ℕ) (p : Node × List ℕ) → less ws bytes ≡ Ok p → Was k ws (5 ∷ bytes) p.0 p.1
 less_was k ws bytes p e =
     let a = then_ok (equal_sides ws bytes) _ p e in
     let t = sides_was ws bytes a.0 a.1 in
-    subst (λ (q : Node × List ℕ). Was k ws (5 ∷ bytes) q.0 q.1) (ok_same (Less a.0.0 a.0.1, a.0.2) p a.2)
+    subst (λ (q : Node × List ℕ). Was k ws (5 ∷ bytes) q.0 q.1) (ok_same (Less a.0.0.0 a.0.0.1, a.0.1) p a.2)
     (record { fit = t.1; split = λ s. ap (λ ys. 5 ∷ ys) t.0; range = λ s. tt })
 
 total_was : (k : ℕ) (ws bytes : List ℕ) (p : Node × List ℕ) → total k ws bytes ≡ Ok p → Was k ws (6 ∷ bytes) p.0 p.1
@@ -117,7 +117,7 @@ total_was k ws bytes p e =
     let b = then_ok (column w a.0.1) _ p a.2 in
     let d = then_ok (within 0 7 b.0.1) _ p b.2 in
     let g = then_ok (columns d.0.0 w d.0.1) _ p d.2 in
-    let h = when_ok (leb (d.0.0 + 1 + k) 8) bad_width (Total a.0.0 b.0.0 d.0.0 g.0.0, g.0.1) p g.2 in
+    let h = when_ok (leb (d.0.0 + 1 + k) 8) bad_width (Total a.0.0 b.0.0 (record { count = d.0.0; places = g.0.0 }), g.0.1) p g.2 in
     let a' = lower_was ws bytes a.0 a.1 in
     let b' = column_was w a.0.1 b.0 b.1 in
     let d' = within_was 0 7 b.0.1 d.0 d.1 in
@@ -141,7 +141,7 @@ behind_was k ws op bytes p e =
     (λ e4. by_number op 4 _ _ p P e4 (λ z f. is 4 (both_was k ws bytes p f) z)
     (λ e5. by_number op 5 _ _ p P e5 (λ z f. is 5 (less_was k ws bytes p f) z)
     (λ e6. by_number op 6 _ _ p P e6 (λ z f. is 6 (total_was k ws bytes p f) z)
-    (λ e7. let z : ◌≡◌ {A = ℕ} 0 1 = cc in absurd (omega arith))))))))
+    (λ e7. cc)))))))
 
 pub node_was : (k : ℕ) (ws bytes : List ℕ) (x : Node) (rest : List ℕ) → node k ws bytes ≡ Ok (x, rest) → Was k ws bytes x rest
 node_was k ws bytes x rest e =
@@ -155,17 +155,17 @@ node_read k ws (Keep c a r o) rest e range =
     let p = and_parts (ltb c (length ws)) _ e in
     let q = and_parts (ltb a (get_or ws c 0)) _ p.1 in
     rw (p.0, q.0, relation_read r, operand_read (get_or ws c 0) o rest q.1 range) refl
-node_read k ws (Pick c n cs) rest e r =
+node_read k ws (Pick c cs) rest e r =
     let p = and_parts (ltb c (length ws)) _ e in
-    let q = and_parts (leb 1 n && leb n 8) _ p.1 in
-    rw (p.0, q.0, columns_read n (get_or ws c 0) cs rest (most 1 8 n q.0) q.1) refl
-node_read k ws (Pair l r n ps) rest e _ =
+    let q = and_parts (leb 1 cs.count && leb cs.count 8) _ p.1 in
+    rw (p.0, q.0, columns_read cs.count (get_or ws c 0) cs.places rest (most 1 8 cs.count q.0) q.1) refl
+node_read k ws (Pair l r ps) rest e _ =
     let p = and_parts (ltb l (length ws)) _ e in
     let q = and_parts (ltb r (length ws)) _ p.1 in
-    let s = and_parts (leb n 4) _ q.1 in
-    let t = and_parts (pairs_fit n (get_or ws l 0) (get_or ws r 0) ps) _ s.1 in
-    let m : (leb 0 n && leb n 4) ≡ true = and_from (leb 0 n) (leb n 4) (le-leb 0 n (omega arith)) s.0 in
-    rw (p.0, q.0, m, pairs_read n (get_or ws l 0) (get_or ws r 0) ps rest (leb-true n 4 s.0) t.0, t.1) refl
+    let s = and_parts (leb ps.count 4) _ q.1 in
+    let t = and_parts (pairs_fit ps.count (get_or ws l 0) (get_or ws r 0) ps.places) _ s.1 in
+    let m : (leb 0 ps.count && leb ps.count 4) ≡ true = and_from (leb 0 ps.count) (leb ps.count 4) (le-leb 0 ps.count (omega arith)) s.0 in
+    rw (p.0, q.0, m, pairs_read ps.count (get_or ws l 0) (get_or ws r 0) ps.places rest (leb-true ps.count 4 s.0) t.0, t.1) refl
 node_read k ws (Both l r) rest e _ =
     let p = and_parts (ltb l (length ws)) _ e in
     let q = and_parts (ltb r (length ws)) _ p.1 in
@@ -174,11 +174,11 @@ node_read k ws (Less l r) rest e _ =
     let p = and_parts (ltb l (length ws)) _ e in
     let q = and_parts (ltb r (length ws)) _ p.1 in
     rw (p.0, q.0, q.1) refl
-node_read k ws (Total c j n cs) rest e _ =
+node_read k ws (Total c j cs) rest e _ =
     let p = and_parts (ltb c (length ws)) _ e in
     let q = and_parts (ltb j (get_or ws c 0)) _ p.1 in
-    let s = and_parts (leb n 7) _ q.1 in
-    let t = and_parts (columns_fit n (get_or ws c 0) cs) _ s.1 in
-    let m : n ≤ 7 = leb-true n 7 s.0 in
-    let b : (leb 0 n && leb n 7) ≡ true = and_from (leb 0 n) (leb n 7) (le-leb 0 n (omega arith)) s.0 in
-    rw (p.0, q.0, b, columns_read n (get_or ws c 0) cs rest (omega arith) t.0, t.1) refl
+    let s = and_parts (leb cs.count 7) _ q.1 in
+    let t = and_parts (columns_fit cs.count (get_or ws c 0) cs.places) _ s.1 in
+    let m : cs.count ≤ 7 = leb-true cs.count 7 s.0 in
+    let b : (leb 0 cs.count && leb cs.count 7) ≡ true = and_from (leb 0 cs.count) (leb cs.count 7) (le-leb 0 cs.count (omega arith)) s.0 in
+    rw (p.0, q.0, b, columns_read cs.count (get_or ws c 0) cs.places rest (omega arith) t.0, t.1) refl

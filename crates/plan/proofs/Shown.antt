@@ -18,7 +18,7 @@ no_room k n h = lt-leb (n + 1 + k) 8 (omega arith) ∙ sym (lt-leb (n + 1 + 8) 8
 module _ (k : ℕ) (many : 8 < k) where
   total_same : (ws bytes : List ℕ) → total k ws bytes ≡ total 8 ws bytes
   total_same ws bytes =
-      then_same (lower ws bytes) _ _ (λ c. then_same (column (get_or ws c.0 0) c.1) _ _ (λ j. then_same (within 0 7 j.1) _ _ (λ n. then_same (columns n.0 (get_or ws c.0 0) n.1) _ _ (λ l. ap (λ b. when b bad_width (Total c.0 j.0 n.0 l.0, l.1)) (no_room k n.0 many)))))
+      then_same (lower ws bytes) _ _ (λ c. then_same (column (get_or ws c.0 0) c.1) _ _ (λ j. then_same (within 0 7 j.1) _ _ (λ n. then_same (columns n.0 (get_or ws c.0 0) n.1) _ _ (λ l. ap (λ b. when b bad_width (Total c.0 j.0 (record { count = n.0; places = l.0 }), l.1)) (no_room k n.0 many)))))
 
   behind_same : (ws : List ℕ) (op : ℕ) (bytes : List ℕ) → behind k ws op bytes ≡ behind 8 ws op bytes
   behind_same ws op bytes = rw (total_same ws bytes) refl
@@ -29,16 +29,16 @@ module _ (k : ℕ) (many : 8 < k) where
   width_same : (ws : List ℕ) (x : Node) → fits 8 ws x ≡ true → width k ws x ≡ width 8 ws x
   width_same ws (Base w) e = refl
   width_same ws (Keep c a r o) e = refl
-  width_same ws (Pick c n cs) e = refl
-  width_same ws (Pair l r n ps) e = refl
+  width_same ws (Pick c cs) e = refl
+  width_same ws (Pair l r ps) e = refl
   width_same ws (Both l r) e = refl
   width_same ws (Less l r) e = refl
-  width_same ws (Total c j n cs) e =
+  width_same ws (Total c j cs) e =
       let p = and_parts (ltb c (length ws)) _ e in
       let q = and_parts (ltb j (get_or ws c 0)) _ p.1 in
-      let s = and_parts (leb n 7) _ q.1 in
-      let t = and_parts (columns_fit n (get_or ws c 0) cs) _ s.1 in
-      let u : n + 1 + 8 ≤ 8 = leb-true (n + 1 + 8) 8 t.1 in
+      let s = and_parts (leb cs.count 7) _ q.1 in
+      let t = and_parts (columns_fit cs.count (get_or ws c 0) cs.places) _ s.1 in
+      let u : cs.count + 1 + 8 ≤ 8 = leb-true (cs.count + 1 + 8) 8 t.1 in
       absurd (omega arith)
 
   nodes_same : (s i : ℕ) (ws bytes : List ℕ) → nodes s k i ws bytes ≡ nodes s 8 i ws bytes

@@ -1,8 +1,8 @@
 -- What a plan's invariant says of its node i.
-use Rattle.std.proofs.Common.{◌≡◌, ℕ, zero, suc, ◌+◌, ◌<◌, ◌≤◌, Bool, true, ◌&&◌, eqb, ltb, leb, List, [], ◌∷◌, ◌++◌, length, get_or, take, drop, Some, sym, refl, ap, ◌∙◌, subst, arith}
-use Rattle.std.proofs.lemmas.Bool.{and_parts, leb-true, ltb-true, eqb-true}
+use Rattle.std.proofs.Common.{◌≡◌, ℕ, zero, suc, ◌+◌, ◌<◌, ◌≤◌, Bool, true, ◌&&◌, eqb, ltb, leb, List, [], ◌∷◌, ◌++◌, length, get_or, take, drop, Option, Some, IfSome, sym, refl, ap, ◌∙◌, subst, ⊎_elim, arith}
+use Rattle.std.proofs.lemmas.Bool.{and_parts, leb-true, ltb-true, eqb-true, cases_lt}
 use Rattle.std.proofs.lemmas.List.{length-take-le, get_or-take, get_or_push, take_more}
-use Rattle.std.proofs.lemmas.Option.{slice_get-get_or}
+use Rattle.std.proofs.lemmas.Option.{slice_get-get_or, slice_get_past}
 use Rattle.std.specs.List.{slice_get}
 use Rattle.bag.specs.declared.condition.Operand.{Operand}
 use Rattle.bag.specs.declared.condition.Operand.TheVariants.{Constant, Column}
@@ -60,34 +60,34 @@ module _ (k : ℕ) (ws : List ℕ) (i : ℕ) (inside : i ≤ length ws) where
         column = subst (λ w. a < w) (at c h) (ltb-true a (get_or (take i ws) c 0) q.0);
         other = subst (OperandBelow o) (at c h) (operand_below o (get_or (take i ws) c 0) q.1);
       }
-  fits_sound (Pick c n cs) e =
+  fits_sound (Pick c cs) e =
       let p = and_parts (ltb c (length (take i ws))) _ e in
-      let q = and_parts (leb 1 n && leb n 8) _ p.1 in
-      let s = and_parts (leb 1 n) (leb n 8) q.0 in
+      let q = and_parts (leb 1 cs.count && leb cs.count 8) _ p.1 in
+      let s = and_parts (leb 1 cs.count) (leb cs.count 8) q.0 in
       let h = lower c p.0 in
       record {
         lower = h;
-        some = leb-true 1 n s.0;
-        few = leb-true n 8 s.1;
-        below = subst (ColumnsBelow n cs) (at c h) (columns_below n (get_or (take i ws) c 0) cs (leb-true n 8 s.1) q.1);
+        some = leb-true 1 cs.count s.0;
+        few = leb-true cs.count 8 s.1;
+        below = subst (ColumnsBelow cs.count cs.places) (at c h) (columns_below cs.count (get_or (take i ws) c 0) cs.places (leb-true cs.count 8 s.1) q.1);
       }
-  fits_sound (Pair l r n ps) e =
+  fits_sound (Pair l r ps) e =
       let vs = take i ws in
       let p = and_parts (ltb l (length vs)) _ e in
       let q = and_parts (ltb r (length vs)) _ p.1 in
-      let s = and_parts (leb n 4) _ q.1 in
-      let t = and_parts (pairs_fit n (get_or vs l 0) (get_or vs r 0) ps) _ s.1 in
+      let s = and_parts (leb ps.count 4) _ q.1 in
+      let t = and_parts (pairs_fit ps.count (get_or vs l 0) (get_or vs r 0) ps.places) _ s.1 in
       let hl = lower l p.0 in
       let hr = lower r q.0 in
-      let each : (j : ℕ) → j < n → pair_fits (get_or vs l 0) (get_or vs r 0) (get_or ps j no_pair) ≡ true = λ j h. listed_at 4 (pair_fits (get_or vs l 0) (get_or vs r 0)) _ n ps (leb-true n 4 s.0) t.0 j no_pair h in
+      let each : (j : ℕ) → j < ps.count → pair_fits (get_or vs l 0) (get_or vs r 0) (get_or ps.places j no_pair) ≡ true = λ j h. listed_at 4 (pair_fits (get_or vs l 0) (get_or vs r 0)) _ ps.count ps.places (leb-true ps.count 4 s.0) t.0 j no_pair h in
       let el = at l hl in
       let er = at r hr in
       record {
         left = hl;
         right = hr;
-        few = leb-true n 4 s.0;
-        left_below = λ j h. subst (λ w. (get_or ps j no_pair).left < w) el (ltb-true (get_or ps j no_pair).left (get_or vs l 0) (and_parts (ltb (get_or ps j no_pair).left (get_or vs l 0)) _ (each j h)).0);
-        right_below = λ j h. subst (λ w. (get_or ps j no_pair).right < w) er (ltb-true (get_or ps j no_pair).right (get_or vs r 0) (and_parts (ltb (get_or ps j no_pair).left (get_or vs l 0)) _ (each j h)).1);
+        few = leb-true ps.count 4 s.0;
+        left_below = λ j h. subst (λ w. (get_or ps.places j no_pair).left < w) el (ltb-true (get_or ps.places j no_pair).left (get_or vs l 0) (and_parts (ltb (get_or ps.places j no_pair).left (get_or vs l 0)) _ (each j h)).0);
+        right_below = λ j h. subst (λ w. (get_or ps.places j no_pair).right < w) er (ltb-true (get_or ps.places j no_pair).right (get_or vs r 0) (and_parts (ltb (get_or ps.places j no_pair).left (get_or vs l 0)) _ (each j h)).1);
         narrow = let m = leb-true (get_or vs l 0 + get_or vs r 0) 8 t.1 in omega arith;
       }
   fits_sound (Both l r) e =
@@ -102,61 +102,61 @@ module _ (k : ℕ) (ws : List ℕ) (i : ℕ) (inside : i ≤ length ws) where
       let hl = lower l p.0 in
       let hr = lower r q.0 in
       record { left = hl; right = hr; equal = sym (at l hl) ∙ (eqb-true (get_or (take i ws) l 0) (get_or (take i ws) r 0) q.1 ∙ at r hr) }
-  fits_sound (Total c j n cs) e =
+  fits_sound (Total c j cs) e =
       let p = and_parts (ltb c (length (take i ws))) _ e in
       let q = and_parts (ltb j (get_or (take i ws) c 0)) _ p.1 in
-      let s = and_parts (leb n 7) _ q.1 in
-      let t = and_parts (columns_fit n (get_or (take i ws) c 0) cs) _ s.1 in
+      let s = and_parts (leb cs.count 7) _ q.1 in
+      let t = and_parts (columns_fit cs.count (get_or (take i ws) c 0) cs.places) _ s.1 in
       let h = lower c p.0 in
-      let m : n ≤ 7 = leb-true n 7 s.0 in
+      let m : cs.count ≤ 7 = leb-true cs.count 7 s.0 in
       record {
         lower = h;
         column = subst (λ w. j < w) (at c h) (ltb-true j (get_or (take i ws) c 0) q.0);
         few = m;
-        below = subst (ColumnsBelow n cs) (at c h) (columns_below n (get_or (take i ws) c 0) cs (omega arith) t.0);
-        narrow = leb-true (n + 1 + k) 8 t.1;
+        below = subst (ColumnsBelow cs.count cs.places) (at c h) (columns_below cs.count (get_or (take i ws) c 0) cs.places (omega arith) t.0);
+        narrow = leb-true (cs.count + 1 + k) 8 t.1;
       }
 
   -- what the list of a node that fits has, and how wide the nodes are that it names
   fits_handed : Narrow ws → (x : Node) → fits k (take i ws) x ≡ true → Sound k ws i x → Handed k ws i x
   fits_handed thin (Base w) e s = record { some = s.some; narrow = s.narrow }
   fits_handed thin (Keep c a r o) e s = let h = s.lower in record { wide = thin c (omega arith) }
-  fits_handed thin (Pick c n cs) e s =
+  fits_handed thin (Pick c cs) e s =
       let p = and_parts (ltb c (length (take i ws))) _ e in
-      let q = and_parts (leb 1 n && leb n 8) _ p.1 in
+      let q = and_parts (leb 1 cs.count && leb cs.count 8) _ p.1 in
       let h = s.lower in
-      record { wide = thin c (omega arith); places = columns_long n (get_or (take i ws) c 0) cs q.1 }
-  fits_handed thin (Pair l r n ps) e s =
+      record { wide = thin c (omega arith); places = columns_long cs.count (get_or (take i ws) c 0) cs.places q.1 }
+  fits_handed thin (Pair l r ps) e s =
       let vs = take i ws in
       let p = and_parts (ltb l (length vs)) _ e in
       let q = and_parts (ltb r (length vs)) _ p.1 in
-      let m = and_parts (leb n 4) _ q.1 in
-      let t = and_parts (pairs_fit n (get_or vs l 0) (get_or vs r 0) ps) _ m.1 in
+      let m = and_parts (leb ps.count 4) _ q.1 in
+      let t = and_parts (pairs_fit ps.count (get_or vs l 0) (get_or vs r 0) ps.places) _ m.1 in
       let hl = s.left in
       let hr = s.right in
       record {
         left_wide = thin l (omega arith);
         right_wide = thin r (omega arith);
-        places = listed_long 4 (pair_fits (get_or vs l 0) (get_or vs r 0)) _ n ps t.0;
+        places = listed_long 4 (pair_fits (get_or vs l 0) (get_or vs r 0)) _ ps.count ps.places t.0;
       }
   fits_handed thin (Both l r) e s = let hl = s.left in let hr = s.right in record { left_wide = thin l (omega arith); right_wide = thin r (omega arith) }
   fits_handed thin (Less l r) e s = let hl = s.left in let hr = s.right in record { left_wide = thin l (omega arith); right_wide = thin r (omega arith) }
-  fits_handed thin (Total c j n cs) e s =
+  fits_handed thin (Total c j cs) e s =
       let p = and_parts (ltb c (length (take i ws))) _ e in
       let q = and_parts (ltb j (get_or (take i ws) c 0)) _ p.1 in
-      let m = and_parts (leb n 7) _ q.1 in
-      let t = and_parts (columns_fit n (get_or (take i ws) c 0) cs) _ m.1 in
+      let m = and_parts (leb cs.count 7) _ q.1 in
+      let t = and_parts (columns_fit cs.count (get_or (take i ws) c 0) cs.places) _ m.1 in
       let h = s.lower in
-      record { wide = thin c (omega arith); places = columns_long n (get_or (take i ws) c 0) cs t.0 }
+      record { wide = thin c (omega arith); places = columns_long cs.count (get_or (take i ws) c 0) cs.places t.0 }
 
   width_same : (x : Node) → Sound k ws i x → width k (take i ws) x ≡ width k ws x
   width_same (Base w) s = refl
   width_same (Keep c a r o) s = at c s.lower
-  width_same (Pick c n cs) s = refl
-  width_same (Pair l r n ps) s = let a = at l s.left in let b = at r s.right in omega arith
+  width_same (Pick c cs) s = refl
+  width_same (Pair l r ps) s = let a = at l s.left in let b = at r s.right in omega arith
   width_same (Both l r) s = at l s.left
   width_same (Less l r) s = at l s.left
-  width_same (Total c j n cs) s = refl
+  width_same (Total c j cs) s = refl
 
 module _ (k : ℕ) (xs : List Node) (law : lawful k [] xs ≡ true) (i : ℕ) (h : i < length xs) (d : Node) where
   long : length (widths k [] xs) ≡ length xs
@@ -195,3 +195,11 @@ module _ (k : ℕ) (xs : List Node) (law : lawful k [] xs ≡ true) (i : ℕ) (h
 -- a plan has as many nodes as widths
 pub nodes_long : (k : ℕ) (xs : List Node) (ws : List ℕ) (len : ℕ) → len ≤ length ws → take len ws ≡ widths k [] xs → length xs ≡ len
 nodes_long k xs ws len h e = let n = length-take-le len ws h in let m = widths_length k [] xs in let l = ap length e in omega arith
+
+-- what holds of each element holds of one that is asked for by its place
+pub asked : {X : Type 0} (P : X → Type 0) (xs : List X) (i : ℕ) (d : X) (o : Option X) → o ≡ slice_get xs i → (i < length xs → P (get_or xs i d)) → IfSome o P
+asked P xs i d o e h =
+    ⊎_elim
+    (λ l. subst (λ v. IfSome v P) (sym (e ∙ slice_get-get_or xs i d l)) (h l))
+    (λ l. subst (λ v. IfSome v P) (sym (e ∙ slice_get_past xs i l)) tt)
+    (cases_lt i (length xs))

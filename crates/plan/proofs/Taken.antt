@@ -1,5 +1,6 @@
 -- The nodes that have been read, and those that are left.
 use Rattle.std.proofs.Common.{◌≡◌, ℕ, zero, suc, ◌+◌, ◌-◌, ◌<◌, List, [], ◌∷◌, ◌++◌, length, Ok, Err, Result, sym, refl, ap, ◌∙◌, append_assoc, append-nil, arith}
+use Rattle.std.specs.Prelude.{MatchResult, IsErrAnd}
 use Rattle.plan.specs.declared.node.Node.{Node}
 use Rattle.plan.specs.Refusal.{Refusal, refused}
 use Rattle.plan.specs.Lawful.{width}
@@ -52,3 +53,19 @@ step_again k i ns vs rest x left w h z e f =
 
 pub end_again : (k i : ℕ) (ns : List Node) (vs rest : List ℕ) → length rest ≡ 0 → after ns (nodes (16 - i) k i vs rest) ≡ Ok ns
 end_again k i ns vs rest z = ap (after ns) (nodes_end (16 - i) k i vs rest z) ∙ ap Ok (append-nil ns)
+
+-- what `map_err` was given, told by what it answers
+module _ {X E D : Type 0} (r : Result X E) (m : Result X D) (P : E → D → Type 0) (cases : MatchResult r (λ x. m ≡ Ok x) (λ e. IsErrAnd m (P e))) where
+  pub mapped_ok : (x : X) → m ≡ Ok x → r ≡ Ok x
+  mapped_ok x h = on r (rw h at cases)
+    where
+      on : (o : Result X E) → MatchResult o (λ y. ◌≡◌ {A = Result X D} (Ok x) (Ok y)) (λ e. IsErrAnd {T = X} (Ok x) (P e)) → o ≡ Ok x
+      on (Ok y) c = cc
+      on (Err e) c = absurd c
+
+  pub mapped_err : (d : D) → m ≡ Err d → (e : E) × (r ≡ Err e) × P e d
+  mapped_err d h = on r (rw h at cases)
+    where
+      on : (o : Result X E) → MatchResult o (λ y. ◌≡◌ {A = Result X D} (Err d) (Ok y)) (λ e. IsErrAnd {T = X} (Err d) (P e)) → (e : E) × (o ≡ Err e) × P e d
+      on (Ok y) c = cc
+      on (Err e) c = (e, refl, c)

@@ -20,10 +20,10 @@ bytes_right (x ∷ xs) ys h = bytes_right xs ys h.1
 
 more_ok : (x : Node) (o : Result (List Node) Refusal) (xs : List Node) → more x o ≡ Ok xs → (ys : List Node) × (o ≡ Ok ys) × (x ∷ ys ≡ xs)
 more_ok x (Ok ys) xs e = (ys, refl, cc)
-more_ok x (Err f) xs e = let z : ◌≡◌ {A = ℕ} 0 1 = cc in absurd (omega arith)
+more_ok x (Err f) xs e = cc
 
 pub more_err : (x : Node) (o : Result (List Node) Refusal) (e : Refusal) → more x o ≡ Err e → o ≡ Err e
-more_err x (Ok ys) e f = let z : ◌≡◌ {A = ℕ} 0 1 = cc in absurd (omega arith)
+more_err x (Ok ys) e f = cc
 more_err x (Err g) e f = f
 
 -- what nodes that were read say of the bytes
@@ -41,11 +41,11 @@ whole : (steps k i : ℕ) (ws bytes : List ℕ) (xs : List Node) → nodes steps
 unfolding nodes lawful
 whole zero k i ws [] xs e = nothing zero k ws xs e
 whole (suc s) k i ws [] xs e = nothing (suc s) k ws xs e
-whole zero k i ws (b ∷ bytes) xs e = let z : ◌≡◌ {A = ℕ} 0 1 = cc in absurd (omega arith)
+whole zero k i ws (b ∷ bytes) xs e = cc
 whole (suc s) k i ws (b ∷ bytes) xs e = on (node k ws (b ∷ bytes)) refl e (λ j vs ys zs f. whole s k j vs ys zs f)
   where
     on : (d : Read Node) → node k ws (b ∷ bytes) ≡ d → next i d (λ x. nodes s k (i + 1) (ws ++ width k ws x.0 ∷ []) x.1) ≡ Ok xs → ((j : ℕ) (vs ys : List ℕ) (zs : List Node) → nodes s k j vs ys ≡ Ok zs → Whole s k vs ys zs) → Whole (suc s) k ws (b ∷ bytes) xs
-    on (Err c) d e again = let z : ◌≡◌ {A = ℕ} 0 1 = cc in absurd (omega arith)
+    on (Err c) d e again = cc
     on (Ok p) d e again =
         let x = p.0 in
         let vs = ws ++ width k ws x ∷ [] in
@@ -65,11 +65,11 @@ whole (suc s) k i ws (b ∷ bytes) xs e = on (node k ws (b ∷ bytes)) refl e (�
 pub long : (x : Node) → 1 ≤ length (encode x)
 long (Base w) = omega arith
 long (Keep c a r o) = omega arith
-long (Pick c n cs) = omega arith
-long (Pair l r n ps) = omega arith
+long (Pick c cs) = omega arith
+long (Pair l r ps) = omega arith
 long (Both l r) = omega arith
 long (Less l r) = omega arith
-long (Total c j n cs) = omega arith
+long (Total c j cs) = omega arith
 
 pub nodes_next : (s k i : ℕ) (ws bytes : List ℕ) (x : Node) (rest : List ℕ) → 1 ≤ length bytes → node k ws bytes ≡ Ok (x, rest) → nodes (suc s) k i ws bytes ≡ more x (nodes s k (i + 1) (ws ++ width k ws x ∷ []) rest)
 unfolding nodes
@@ -100,7 +100,7 @@ some_node k b bytes [] w h = let e : ◌≡◌ {A = List ℕ} (b ∷ bytes) [] =
 some_node k b bytes (x ∷ xs) w h = omega arith
 
 pub accepted : (k : ℕ) (bytes : List ℕ) (xs : List Node) → Bytes bytes → checked k bytes ≡ Ok xs → LawfulPlan k xs × (bytes ≡ encode_all xs)
-accepted k [] xs h e = let z : ◌≡◌ {A = ℕ} 0 1 = cc in absurd (omega arith)
+accepted k [] xs h e = cc
 accepted k (b ∷ bytes) xs h e =
     let w = whole 16 k 0 [] (b ∷ bytes) xs e in
     (record { some = some_node k b bytes xs w h; few = w.few; fit = w.fit; range = w.range h }, w.code h)

@@ -18,11 +18,11 @@ use Rattle.plan.specs.Lawful.{width}
 abbrev pub is_base : Node → Bool
 is_base (Base w) = true
 is_base (Keep c a relation operand) = false
-is_base (Pick c n columns) = false
-is_base (Pair l r n pairs) = false
+is_base (Pick c columns) = false
+is_base (Pair l r pairs) = false
 is_base (Both l r) = false
 is_base (Less l r) = false
-is_base (Total c j n columns) = false
+is_base (Total c j columns) = false
 
 abbrev pub board : List Lines → ℕ → Lines
 board bs i = slice_index_or bs i []
@@ -34,11 +34,11 @@ module _ {V : Type 0} (M : Measure V) where
   unfoldable pub board_of : List ℕ → Lines → List Lines → Node → Lines
   board_of ws net bs (Base w) = net
   board_of ws net bs (Keep c a relation operand) = keep a relation operand (board bs c)
-  board_of ws net bs (Pick c n columns) = pick (take n columns) (board bs c)
-  board_of ws net bs (Pair l r n pairs) = pair (slice_index ws l) (pairs_of n pairs) (board bs l) (board bs r)
+  board_of ws net bs (Pick c columns) = pick (take columns.count columns.places) (board bs c)
+  board_of ws net bs (Pair l r pairs) = pair (slice_index ws l) (pairs_of pairs.count pairs.places) (board bs l) (board bs r)
   board_of ws net bs (Both l r) = both (board bs l) (board bs r)
   board_of ws net bs (Less l r) = monus (board bs l) (board bs r)
-  board_of ws net bs (Total c j n columns) = total M j (take n columns) (board bs c)
+  board_of ws net bs (Total c j columns) = total M j (take columns.count columns.places) (board bs c)
 
   unfoldable pub afresh_from : (ℕ → Lines) → List ℕ → List Lines → List Node → List Lines
   afresh_from net ws bs [] = bs

@@ -24,25 +24,25 @@ keep ws bytes =
 
 abbrev pub pick : List ℕ → List ℕ → Read Node
 pick ws bytes =
-    then (lower ws bytes) (λ c. then (within 1 8 c.1) (λ n. then (columns n.0 (slice_index ws c.0) n.1) (λ l. Ok (Pick c.0 n.0 l.0, l.1))))
+    then (lower ws bytes) (λ c. then (within 1 8 c.1) (λ n. then (columns n.0 (slice_index ws c.0) n.1) (λ l. Ok (Pick c.0 (record { count = n.0; places = l.0 }), l.1))))
 
 abbrev pub pair : List ℕ → List ℕ → Read Node
 pair ws bytes =
-    then (lower ws bytes) (λ l. then (lower ws l.1) (λ r. then (within 0 4 r.1) (λ n. then (pairs n.0 (slice_index ws l.0) (slice_index ws r.0) n.1) (λ p. when (nat_le (slice_index ws l.0 + slice_index ws r.0) 8) bad_width (Pair l.0 r.0 n.0 p.0, p.1)))))
+    then (lower ws bytes) (λ l. then (lower ws l.1) (λ r. then (within 0 4 r.1) (λ n. then (pairs n.0 (slice_index ws l.0) (slice_index ws r.0) n.1) (λ p. when (nat_le (slice_index ws l.0 + slice_index ws r.0) 8) bad_width (Pair l.0 r.0 (record { count = n.0; places = p.0 }), p.1)))))
 
-abbrev pub equal_sides : List ℕ → List ℕ → Result (ℕ × ℕ × List ℕ) ℕ
+abbrev pub equal_sides : List ℕ → List ℕ → Read (ℕ × ℕ)
 equal_sides ws bytes =
-    then (lower ws bytes) (λ l. then (lower ws l.1) (λ r. when (slice_index ws l.0 == slice_index ws r.0) bad_width (l.0, r.0, r.1)))
+    then (lower ws bytes) (λ l. then (lower ws l.1) (λ r. when (slice_index ws l.0 == slice_index ws r.0) bad_width ((l.0, r.0), r.1)))
 
 abbrev pub both : List ℕ → List ℕ → Read Node
-both ws bytes = then (equal_sides ws bytes) (λ s. Ok (Both s.0 s.1, s.2))
+both ws bytes = then (equal_sides ws bytes) (λ s. Ok (Both s.0.0 s.0.1, s.1))
 
 abbrev pub less : List ℕ → List ℕ → Read Node
-less ws bytes = then (equal_sides ws bytes) (λ s. Ok (Less s.0 s.1, s.2))
+less ws bytes = then (equal_sides ws bytes) (λ s. Ok (Less s.0.0 s.0.1, s.1))
 
 abbrev pub total : ℕ → List ℕ → List ℕ → Read Node
 total k ws bytes =
-    then (lower ws bytes) (λ c. then (column (slice_index ws c.0) c.1) (λ j. then (within 0 7 j.1) (λ n. then (columns n.0 (slice_index ws c.0) n.1) (λ l. when (nat_le (n.0 + 1 + k) 8) bad_width (Total c.0 j.0 n.0 l.0, l.1)))))
+    then (lower ws bytes) (λ c. then (column (slice_index ws c.0) c.1) (λ j. then (within 0 7 j.1) (λ n. then (columns n.0 (slice_index ws c.0) n.1) (λ l. when (nat_le (n.0 + 1 + k) 8) bad_width (Total c.0 j.0 (record { count = n.0; places = l.0 }), l.1)))))
 
 abbrev pub behind : ℕ → List ℕ → ℕ → List ℕ → Read Node
 behind k ws op bytes =

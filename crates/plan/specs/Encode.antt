@@ -33,11 +33,11 @@ pair_bytes p = p.left ∷ p.right ∷ []
 abbrev pub encode : Node → List ℕ
 encode (Base w) = 0 ∷ w ∷ []
 encode (Keep c a relation operand) = 1 ∷ c ∷ a ∷ relation_number relation ∷ operand_bytes operand
-encode (Pick c n columns) = 2 ∷ c ∷ n ∷ take n columns
-encode (Pair l r n pairs) = 3 ∷ l ∷ r ∷ n ∷ flat_map pair_bytes (take n pairs)
+encode (Pick c columns) = 2 ∷ c ∷ columns.count ∷ take columns.count columns.places
+encode (Pair l r pairs) = 3 ∷ l ∷ r ∷ pairs.count ∷ flat_map pair_bytes (take pairs.count pairs.places)
 encode (Both l r) = 4 ∷ l ∷ r ∷ []
 encode (Less l r) = 5 ∷ l ∷ r ∷ []
-encode (Total c j n columns) = 6 ∷ c ∷ j ∷ n ∷ take n columns
+encode (Total c j columns) = 6 ∷ c ∷ j ∷ columns.count ∷ take columns.count columns.places
 
 abbrev pub encode_all : List Node → List ℕ
 encode_all xs = flat_map encode xs

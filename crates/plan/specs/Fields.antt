@@ -9,6 +9,7 @@
 --   column        a column of rows w wide
 --   within        a number from a to b
 --   relation      0 <, 1 ≤, 2 =, 3 ≠, 4 ≥, 5 >
+--   relation_at   a relation's byte
 --   word          a signed number of four bytes, the highest byte first
 --   operand       kind 0 and a number, or kind 1 and a column
 --   items         n fields of one kind
@@ -71,6 +72,9 @@ within a b bytes = then (octet bytes) (λ p. when (nat_le a p.0 && nat_le p.0 b)
 abbrev pub relation : ℕ → Result Relation ℕ
 relation b =
     cond (b == 0) (Ok Less) (cond (b == 1) (Ok LessOrEqual) (cond (b == 2) (Ok Equal) (cond (b == 3) (Ok NotEqual) (cond (b == 4) (Ok GreaterOrEqual) (cond (b == 5) (Ok Greater) (Err outside))))))
+
+abbrev pub relation_at : List ℕ → Read Relation
+relation_at bytes = then (octet bytes) (λ b. then (relation b.0) (λ r. Ok (r, b.1)))
 
 abbrev pub word : List ℕ → Read Operand
 word [] = Err missing

@@ -24,11 +24,11 @@ use Rattle.plan.specs.declared.node.Node.TheVariants.{Base, Keep, Pick, Pair, Bo
 abbrev pub width : ℕ → List ℕ → Node → ℕ
 width k ws (Base w) = w
 width k ws (Keep c a relation operand) = slice_index ws c
-width k ws (Pick c n columns) = n
-width k ws (Pair l r n pairs) = slice_index ws l + slice_index ws r
+width k ws (Pick c columns) = columns.count
+width k ws (Pair l r pairs) = slice_index ws l + slice_index ws r
 width k ws (Both l r) = slice_index ws l
 width k ws (Less l r) = slice_index ws l
-width k ws (Total c j n columns) = n + 1 + k
+width k ws (Total c j columns) = columns.count + 1 + k
 
 unfoldable pub every : {X : Type 0} → (X → Bool) → List X → Bool
 every test [] = true
@@ -57,13 +57,13 @@ abbrev pub fits : ℕ → List ℕ → Node → Bool
 fits k ws (Base w) = nat_le 1 w && nat_le w 8
 fits k ws (Keep c a relation operand) =
     nat_lt c (length ws) && (nat_lt a (slice_index ws c) && operand_fits (slice_index ws c) operand)
-fits k ws (Pick c n columns) = nat_lt c (length ws) && ((nat_le 1 n && nat_le n 8) && columns_fit n (slice_index ws c) columns)
-fits k ws (Pair l r n pairs) =
-    nat_lt l (length ws) && (nat_lt r (length ws) && (nat_le n 4 && (pairs_fit n (slice_index ws l) (slice_index ws r) pairs && nat_le (slice_index ws l + slice_index ws r) 8)))
+fits k ws (Pick c columns) = nat_lt c (length ws) && ((nat_le 1 columns.count && nat_le columns.count 8) && columns_fit columns.count (slice_index ws c) columns.places)
+fits k ws (Pair l r pairs) =
+    nat_lt l (length ws) && (nat_lt r (length ws) && (nat_le pairs.count 4 && (pairs_fit pairs.count (slice_index ws l) (slice_index ws r) pairs.places && nat_le (slice_index ws l + slice_index ws r) 8)))
 fits k ws (Both l r) = nat_lt l (length ws) && (nat_lt r (length ws) && slice_index ws l == slice_index ws r)
 fits k ws (Less l r) = nat_lt l (length ws) && (nat_lt r (length ws) && slice_index ws l == slice_index ws r)
-fits k ws (Total c j n columns) =
-    nat_lt c (length ws) && (nat_lt j (slice_index ws c) && (nat_le n 7 && (columns_fit n (slice_index ws c) columns && nat_le (n + 1 + k) 8)))
+fits k ws (Total c j columns) =
+    nat_lt c (length ws) && (nat_lt j (slice_index ws c) && (nat_le columns.count 7 && (columns_fit columns.count (slice_index ws c) columns.places && nat_le (columns.count + 1 + k) 8)))
 
 unfoldable pub widths : ℕ → List ℕ → List Node → List ℕ
 widths k ws [] = ws
@@ -84,11 +84,11 @@ operand_in_range (Column b) = Unit {0}
 abbrev pub InRange : Node → Type 0
 InRange (Base w) = Unit {0}
 InRange (Keep c a relation operand) = operand_in_range operand
-InRange (Pick c n columns) = Unit {0}
-InRange (Pair l r n pairs) = Unit {0}
+InRange (Pick c columns) = Unit {0}
+InRange (Pair l r pairs) = Unit {0}
 InRange (Both l r) = Unit {0}
 InRange (Less l r) = Unit {0}
-InRange (Total c j n columns) = Unit {0}
+InRange (Total c j columns) = Unit {0}
 
 pub record LawfulPlan (k : ℕ) (xs : List Node) : Type 0 where
   pub some : 1 ≤ length xs

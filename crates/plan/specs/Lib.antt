@@ -1,6 +1,7 @@
 pub mod Refusal
 pub mod Lawful
 pub mod Fields
+pub mod Reading
 pub mod Check
 pub mod Encode
 pub mod Plans

@@ -61,11 +61,11 @@ pub record TotalSound (k : ℕ) (ws : List ℕ) (i c j n : ℕ) (columns : List 
 abbrev pub Sound : ℕ → List ℕ → ℕ → Node → Type 0
 Sound k ws i (Base w) = BaseSound w
 Sound k ws i (Keep c a relation operand) = KeepSound ws i c a operand
-Sound k ws i (Pick c n columns) = PickSound ws i c n columns
-Sound k ws i (Pair l r n pairs) = PairSound ws i l r n pairs
+Sound k ws i (Pick c columns) = PickSound ws i c columns.count columns.places
+Sound k ws i (Pair l r pairs) = PairSound ws i l r pairs.count pairs.places
 Sound k ws i (Both l r) = SidesSound ws i l r
 Sound k ws i (Less l r) = SidesSound ws i l r
-Sound k ws i (Total c j n columns) = TotalSound k ws i c j n columns
+Sound k ws i (Total c j columns) = TotalSound k ws i c j columns.count columns.places
 
 pub record KeepHanded (ws : List ℕ) (c : ℕ) : Type 0 where
   pub wide : OneToEight (slice_index ws c)
@@ -90,8 +90,8 @@ pub record TotalHanded (ws : List ℕ) (c : ℕ) (columns : List ℕ) : Type 0 w
 abbrev pub Handed : ℕ → List ℕ → ℕ → Node → Type 0
 Handed k ws i (Base w) = OneToEight w
 Handed k ws i (Keep c a relation operand) = KeepHanded ws c
-Handed k ws i (Pick c n columns) = PickHanded ws c columns
-Handed k ws i (Pair l r n pairs) = PairHanded ws l r pairs
+Handed k ws i (Pick c columns) = PickHanded ws c columns.places
+Handed k ws i (Pair l r pairs) = PairHanded ws l r pairs.places
 Handed k ws i (Both l r) = SidesHanded ws l r
 Handed k ws i (Less l r) = SidesHanded ws l r
-Handed k ws i (Total c j n columns) = TotalHanded ws c columns
+Handed k ws i (Total c j columns) = TotalHanded ws c columns.places

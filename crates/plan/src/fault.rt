@@ -1,27 +1,29 @@
 ghost use Rattle.std.specs.Prelude.{◌≡◌, Some};
-ghost use Rattle.plan.specs.Refusal.{cause_number, fault_at, plan_refusal, plan_text};
+ghost use Rattle.plan.specs.declared.fault.Cause.TheVariants.{Value};
+ghost use Rattle.plan.specs.Refusal.{cause_number, plan_refusal, plan_text};
 
+use bag::condition::UnknownRelation;
 use std::fmt;
 
-// Why bytes are no plan.
-#[derive(Clone, Copy)]
+// Why bytes are no plan, with the number that a refusal tells.
+#[derive(Clone, Copy, PartialEq, Eq, Debug)]
 pub enum Cause {
     // The bytes end before a field.
-    Missing,
+    Missing = 1,
     // A field has a value that is not in its list; an unknown operator, too.
-    Value,
+    Value = 2,
     // A field names a node that is not lower.
-    Lower,
+    Lower = 3,
     // A field names a column at or past the width.
-    Column,
+    Column = 4,
     // The rows would be too wide, or two sides that must be equally wide are not.
-    Width,
+    Width = 5,
     // There is no node, or a 17th.
-    Nodes,
+    Nodes = 6,
 }
 
 // The first bad field: its node, and what is wrong there.
-#[derive(Clone, Copy)]
+#[derive(Clone, Copy, PartialEq, Eq, Debug)]
 pub struct PlanFault {
     pub node: u8,
     pub cause: Cause,
@@ -31,24 +33,20 @@ impl Cause {
     pub fn number(&self) -> u8
         ensures { result ≡ cause_number self.now }
     {
-        match self {
-            Cause::Missing => 1,
-            Cause::Value => 2,
-            Cause::Lower => 3,
-            Cause::Column => 4,
-            Cause::Width => 5,
-            Cause::Nodes => 6,
-        }
+        *self as u8
+    }
+}
+
+// A relation that there is not is a value that is not in the list.
+impl From<UnknownRelation> for Cause {
+    ghost from_gives = { λ _ cause. cause ≡ Value };
+
+    fn from(_unknown: UnknownRelation) -> Cause {
+        Cause::Value
     }
 }
 
 impl PlanFault {
-    pub(crate) fn at(node: u8, cause: Cause) -> PlanFault
-        ensures { result ≡ fault_at node cause }
-    {
-        PlanFault { node, cause }
-    }
-
     // The number of the refusal; its place is the node, then the cause's number.
     pub fn number(&self) -> u8
         ensures { result ≡ (plan_refusal self.now).number }

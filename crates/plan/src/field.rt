@@ -1,139 +1,136 @@
-ghost use Rattle.std.specs.Prelude.{◌≡◌, ◌<◌, ◌≤◌, length, IfOk, Ok, Err, MatchResult};
-ghost use Rattle.plan.specs.Refusal.{cause_number};
+ghost use Rattle.std.specs.Prelude.{ℕ, ◌<◌, ◌≤◌, List, length, IfOk};
 ghost use Rattle.plan.specs.Fields as spec;
+ghost use Rattle.plan.specs.Fields.{Read};
+ghost use Rattle.plan.specs.Reading.{Reads, EachReads, Fills};
 
 use crate::fault::Cause;
 use crate::node::ColumnPair;
 use bag::condition::{Operand, Relation};
 
-// Each reader answers the value of a field and the bytes behind it.
-
-pub(crate) fn octet(bytes: &[u8]) -> Result<(u8, &[u8]), Cause>
-    ensures is { MatchResult result (λ p. spec.octet bytes.now ≡ Ok (p.0, p.1.now)) (λ e. spec.octet bytes.now ≡ Err (cause_number e)) }
-    ensures shorter { IfOk result (λ p. length p.1.now < length bytes.now) }
-{
-    let [b, rest @ ..] = bytes else {
-        return Err(Cause::Missing);
-    };
-    Ok((*b, rest))
+// The bytes of a plan that are still to be read.
+// Each method reads one field and moves on behind it, or answers what is wrong with it.
+#[derive(Drop)]
+pub(crate) struct Fields<'a> {
+    pub(crate) rest: &'a [u8],
 }
 
-// The number of a lower node; `widths` are those of the lower nodes.
-pub(crate) fn lower<'a>(widths: &[u8], bytes: &'a [u8]) -> Result<(u8, &'a [u8]), Cause>
-    ensures is { MatchResult result (λ p. spec.lower widths.now bytes.now ≡ Ok (p.0, p.1.now)) (λ e. spec.lower widths.now bytes.now ≡ Err (cause_number e)) }
-    ensures shorter { IfOk result (λ p. (length p.1.now < length bytes.now) × (p.0 < length widths.now)) }
-{
-    let (c, rest) = octet(bytes)?;
-    if c as usize >= widths.len() {
-        return Err(Cause::Lower);
+impl<'a> Fields<'a> {
+    pub(crate) fn octet(&mut self) -> Result<u8, Cause>
+        ensures { Reads (spec.octet self.old.rest.now) result self.new.rest.now }
+    {
+        let [first, rest @ ..] = self.rest else {
+            return Err(Cause::Missing);
+        };
+        self.rest = rest;
+        Ok(*first)
     }
-    Ok((c, rest))
-}
 
-// A column of rows of this width.
-pub(crate) fn column(width: u8, bytes: &[u8]) -> Result<(u8, &[u8]), Cause>
-    ensures is { MatchResult result (λ p. spec.column width bytes.now ≡ Ok (p.0, p.1.now)) (λ e. spec.column width bytes.now ≡ Err (cause_number e)) }
-    ensures shorter { IfOk result (λ p. length p.1.now < length bytes.now) }
-{
-    let (a, rest) = octet(bytes)?;
-    if a >= width {
-        return Err(Cause::Column);
-    }
-    Ok((a, rest))
-}
-
-// A number from `least` to `most`.
-pub(crate) fn within(least: u8, most: u8, bytes: &[u8]) -> Result<(u8, &[u8]), Cause>
-    ensures is { MatchResult result (λ p. spec.within least most bytes.now ≡ Ok (p.0, p.1.now)) (λ e. spec.within least most bytes.now ≡ Err (cause_number e)) }
-    ensures shorter { IfOk result (λ p. (length p.1.now < length bytes.now) × (p.0 ≤ most)) }
-{
-    let (n, rest) = octet(bytes)?;
-    if n < least || n > most {
-        return Err(Cause::Value);
-    }
-    Ok((n, rest))
-}
-
-pub(crate) fn relation(number: u8) -> Result<Relation, Cause>
-    ensures { MatchResult result (λ x. spec.relation number ≡ Ok x) (λ e. spec.relation number ≡ Err (cause_number e)) }
-{
-    match number {
-        0 => Ok(Relation::Less),
-        1 => Ok(Relation::LessOrEqual),
-        2 => Ok(Relation::Equal),
-        3 => Ok(Relation::NotEqual),
-        4 => Ok(Relation::GreaterOrEqual),
-        5 => Ok(Relation::Greater),
-        _ => Err(Cause::Value),
-    }
-}
-
-// What a column is compared with.
-pub(crate) fn operand(width: u8, bytes: &[u8]) -> Result<(Operand, &[u8]), Cause>
-    ensures is { MatchResult result (λ p. spec.operand width bytes.now ≡ Ok (p.0, p.1.now)) (λ e. spec.operand width bytes.now ≡ Err (cause_number e)) }
-    ensures shorter { IfOk result (λ p. length p.1.now < length bytes.now) }
-{
-    let (kind, rest) = octet(bytes)?;
-    match kind {
-        0 => {
-            let [a, b, c, d, rest @ ..] = rest else {
-                return Err(Cause::Missing);
-            };
-            Ok((
-                Operand::Constant(i32::from_be_bytes([*a, *b, *c, *d])),
-                rest,
-            ))
+    // The number of a lower node; `widths` are those of the lower nodes.
+    pub(crate) fn lower(&mut self, widths: &[u8]) -> Result<u8, Cause>
+        ensures is { Reads (spec.lower widths.now self.old.rest.now) result self.new.rest.now }
+        ensures lower { IfOk result (λ number. number < length widths.now) }
+    {
+        let number = self.octet()?;
+        if number as usize >= widths.len() {
+            return Err(Cause::Lower);
         }
-        1 => {
-            let (b, rest) = column(width, rest)?;
-            Ok((Operand::Column(b), rest))
+        Ok(number)
+    }
+
+    // A column of rows of this width.
+    pub(crate) fn column(&mut self, width: u8) -> Result<u8, Cause>
+        ensures { Reads (spec.column width self.old.rest.now) result self.new.rest.now }
+    {
+        let column = self.octet()?;
+        if column >= width {
+            return Err(Cause::Column);
         }
-        _ => Err(Cause::Value),
+        Ok(column)
     }
-}
 
-// `n` columns of rows of this width, in the first places.
-pub(crate) fn columns(n: u8, width: u8, bytes: &[u8]) -> Result<([u8; 8], &[u8]), Cause>
-    requires { n ≤ 8 }
-    ensures is { MatchResult result (λ p. spec.columns n width bytes.now ≡ Ok (p.0, p.1.now)) (λ e. spec.columns n width bytes.now ≡ Err (cause_number e)) }
-    ensures shorter { IfOk result (λ p. length p.1.now ≤ length bytes.now) }
-{
-    let mut list = [0; 8];
-    let mut rest = bytes;
-    for i in 0..n as usize {
-        let (a, left) = column(width, rest)?;
-        list[i] = a;
-        rest = left;
+    // A number from `least` to `most`.
+    pub(crate) fn within(&mut self, least: u8, most: u8) -> Result<u8, Cause>
+        ensures is { Reads (spec.within least most self.old.rest.now) result self.new.rest.now }
+        ensures few { IfOk result (λ number. number ≤ most) }
+    {
+        let number = self.octet()?;
+        if !(least..=most).contains(&number) {
+            return Err(Cause::Value);
+        }
+        Ok(number)
     }
-    Ok((list, rest))
-}
 
-fn column_pair(left: u8, right: u8, bytes: &[u8]) -> Result<(ColumnPair, &[u8]), Cause>
-    ensures is { MatchResult result (λ p. spec.column_pair left right bytes.now ≡ Ok (p.0, p.1.now)) (λ e. spec.column_pair left right bytes.now ≡ Err (cause_number e)) }
-    ensures shorter { IfOk result (λ p. length p.1.now < length bytes.now) }
-{
-    let (a, rest) = column(left, bytes)?;
-    let (b, rest) = column(right, rest)?;
-    Ok((ColumnPair { left: a, right: b }, rest))
-}
-
-// `n` pairs of a column of left rows and a column of right rows, in the first places.
-pub(crate) fn pairs(
-    n: u8,
-    left: u8,
-    right: u8,
-    bytes: &[u8],
-) -> Result<([ColumnPair; 4], &[u8]), Cause>
-    requires { n ≤ 4 }
-    ensures is { MatchResult result (λ p. spec.pairs n left right bytes.now ≡ Ok (p.0, p.1.now)) (λ e. spec.pairs n left right bytes.now ≡ Err (cause_number e)) }
-    ensures shorter { IfOk result (λ p. length p.1.now ≤ length bytes.now) }
-{
-    let mut list = [ColumnPair { left: 0, right: 0 }; 4];
-    let mut rest = bytes;
-    for i in 0..n as usize {
-        let (pair, behind) = column_pair(left, right, rest)?;
-        list[i] = pair;
-        rest = behind;
+    pub(crate) fn relation(&mut self) -> Result<Relation, Cause>
+        ensures { Reads (spec.relation_at self.old.rest.now) result self.new.rest.now }
+    {
+        Ok(Relation::try_from(self.octet()?)?)
     }
-    Ok((list, rest))
+
+    fn constant(&mut self) -> Result<Operand, Cause>
+        ensures { Reads (spec.word self.old.rest.now) result self.new.rest.now }
+    {
+        let Some((word, rest)) = self.rest.split_first_chunk() else {
+            return Err(Cause::Missing);
+        };
+        self.rest = rest;
+        Ok(Operand::Constant(i32::from_be_bytes(*word)))
+    }
+
+    // What a column is compared with. The number of its kind is matched where the kind is read, and never kept.
+    pub(crate) fn operand(&mut self, width: u8) -> Result<Operand, Cause>
+        ensures { Reads (spec.operand width self.old.rest.now) result self.new.rest.now }
+    {
+        match self.octet()? {
+            0 => self.constant(),
+            1 => Ok(Operand::Column(self.column(width)?)),
+            _ => Err(Cause::Value),
+        }
+    }
+
+    // A column of left rows and a column of right rows.
+    pub(crate) fn column_pair(&mut self, left: u8, right: u8) -> Result<ColumnPair, Cause>
+        ensures { Reads (spec.column_pair left right self.old.rest.now) result self.new.rest.now }
+    {
+        let left = self.column(left)?;
+        let right = self.column(right)?;
+        Ok(ColumnPair { left, right })
+    }
+
+    // `n` columns of rows of this width, in the first places.
+    pub(crate) fn columns(&mut self, n: u8, width: u8) -> Result<[u8; 8], Cause>
+        requires { n ≤ 8 }
+        ensures { Reads (spec.columns n width self.old.rest.now) result self.new.rest.now }
+    {
+        let mut columns = [0; 8];
+        self.fill(&mut columns[..n as usize], |fields| fields.column(width))?;
+        Ok(columns)
+    }
+
+    // `n` pairs of a column of left rows and a column of right rows, in the first places.
+    pub(crate) fn pairs(&mut self, n: u8, left: u8, right: u8) -> Result<[ColumnPair; 4], Cause>
+        requires { n ≤ 4 }
+        ensures { Reads (spec.pairs n left right self.old.rest.now) result self.new.rest.now }
+    {
+        let mut pairs = [ColumnPair { left: 0, right: 0 }; 4];
+        self.fill(
+            &mut pairs[..n as usize],
+            |fields| fields.column_pair(left, right),
+        )?;
+        Ok(pairs)
+    }
+
+    // Fills each place by `read`, one field after the other.
+    pub(crate) fn fill<T: Copy, F: Fn(&mut Fields<'a>) -> Result<T, Cause>>(
+        &mut self,
+        places: &mut [T],
+        read: F,
+    ) -> Result<(), Cause>
+        requires { F.IsAlwaysCallable read }
+        ensures { (reader : List ℕ → Read T) → EachReads reader (F.post read) → Fills reader places.old self.old.rest.now result places.new self.new.rest.now }
+    {
+        for place in places {
+            *place = read(self)?;
+        }
+        Ok(())
+    }
 }

@@ -1,15 +1,34 @@
+ghost use Rattle.std.specs.Prelude.{◌≡◌, take};
+
 use bag::condition::{Operand, Relation};
 
 // A column of a left row that must equal a column of a right row.
-#[derive(Clone, Copy)]
+#[derive(Clone, Copy, PartialEq, Eq, Debug)]
 pub struct ColumnPair {
     pub left: u8,
     pub right: u8,
 }
 
+// The first `count` places count, the others are blank.
+// No invariant binds `count`: every program may make and change a list, and an invariant would ask more of it than its types do.
+#[derive(Clone, Copy, PartialEq, Eq, Debug)]
+pub struct Listed<T, const N: usize> {
+    pub count: u8,
+    pub places: [T; N],
+}
+
+impl<T, const N: usize> Listed<T, N> {
+    // The places that count.
+    pub fn as_slice(&self) -> &[T]
+        ensures { result.now ≡ take self.now.count self.now.places }
+    {
+        let places = self.places.as_slice();
+        &places[..(self.count as usize).min(places.len())]
+    }
+}
+
 // One node of a plan. `child`, `left` and `right` are numbers of lower nodes.
-// The first `count` places of a list count, the others are 0.
-#[derive(Clone, Copy)]
+#[derive(Clone, Copy, PartialEq, Eq, Debug)]
 pub enum Node {
     // A table that messages fill.
     Base {
@@ -25,15 +44,13 @@ pub enum Node {
     // Bag projection: the listed columns of each of the child's rows.
     Pick {
         child: u8,
-        count: u8,
-        columns: [u8; 8],
+        columns: Listed<u8, 8>,
     },
     // Equi-join: a row of the left followed by a row of the right where the pairs are equal.
     Pair {
         left: u8,
         right: u8,
-        count: u8,
-        pairs: [ColumnPair; 4],
+        pairs: Listed<ColumnPair, 4>,
     },
     // Bag union.
     Both {
@@ -49,7 +66,6 @@ pub enum Node {
     Total {
         child: u8,
         measured: u8,
-        count: u8,
-        columns: [u8; 8],
+        columns: Listed<u8, 8>,
     },
 }

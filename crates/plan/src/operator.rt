@@ -1,170 +1,132 @@
-ghost use Rattle.std.specs.Prelude.{◌≡◌, ◌<◌, ◌≤◌, true, length, IfOk, Ok, Err, MatchResult};
-ghost use Rattle.plan.specs.Refusal.{cause_number};
+ghost use Rattle.std.specs.Prelude.{◌≡◌, ◌≤◌, true};
 ghost use Rattle.plan.specs.Lawful.{fits, width as width_by};
 ghost use Rattle.plan.specs.Check as spec;
+ghost use Rattle.plan.specs.Reading.{Reads};
 
 use crate::fault::Cause;
-use crate::field::{column, columns, lower, octet, operand, pairs, relation, within};
-use crate::node::Node;
+use crate::field::Fields;
+use crate::node::{Listed, Node};
 
-// Each reader answers a node and the bytes behind it; `widths` are those of the lower nodes.
-
-fn base(bytes: &[u8]) -> Result<(Node, &[u8]), Cause>
-    ensures is { MatchResult result (λ p. spec.base bytes.now ≡ Ok (p.0, p.1.now)) (λ e. spec.base bytes.now ≡ Err (cause_number e)) }
-    ensures shorter { IfOk result (λ p. length p.1.now < length bytes.now) }
-{
-    let (w, rest) = within(1, 8, bytes)?;
-    Ok((Node::Base { width: w }, rest))
+// The widths of the nodes below one, and how many columns the plan's measure shows.
+#[derive(Clone, Copy)]
+pub(crate) struct LowerNodes<'a> {
+    pub(crate) widths: &'a [u8],
+    pub(crate) shown: u8,
+    ghost narrow: { shown ≤ 8 },
 }
 
-fn keep<'a>(widths: &[u8], bytes: &'a [u8]) -> Result<(Node, &'a [u8]), Cause>
-    ensures is { MatchResult result (λ p. spec.keep widths.now bytes.now ≡ Ok (p.0, p.1.now)) (λ e. spec.keep widths.now bytes.now ≡ Err (cause_number e)) }
-    ensures shorter { IfOk result (λ p. length p.1.now < length bytes.now) }
-{
-    let (c, rest) = lower(widths, bytes)?;
-    let width = widths[c as usize];
-    let (a, rest) = column(width, rest)?;
-    let (number, rest) = octet(rest)?;
-    let relation = relation(number)?;
-    let (operand, rest) = operand(width, rest)?;
-    Ok((
-        Node::Keep {
-            child: c,
-            column: a,
+impl LowerNodes<'_> {
+    // The node that the fields begin with.
+    // Its operator's number is matched once, here: an enum of operators would only be matched a second time.
+    pub(crate) fn node(&self, fields: &mut Fields) -> Result<Node, Cause>
+        ensures { Reads (spec.node self.now.shown self.now.widths.now fields.old.rest.now) result fields.new.rest.now }
+    {
+        match fields.octet()? {
+            0 => Ok(Node::Base {
+                width: fields.within(1, 8)?,
+            }),
+            1 => self.keep(fields),
+            2 => self.pick(fields),
+            3 => self.pair(fields),
+            4 => {
+                let (left, right) = self.equal_sides(fields)?;
+                Ok(Node::Both { left, right })
+            },
+            5 => {
+                let (left, right) = self.equal_sides(fields)?;
+                Ok(Node::Less { left, right })
+            },
+            6 => self.total(fields),
+            _ => Err(Cause::Value),
+        }
+    }
+
+    fn keep(&self, fields: &mut Fields) -> Result<Node, Cause>
+        ensures { Reads (spec.keep self.now.widths.now fields.old.rest.now) result fields.new.rest.now }
+    {
+        let child = fields.lower(self.widths)?;
+        let width = self.widths[child as usize];
+        let column = fields.column(width)?;
+        let relation = fields.relation()?;
+        let operand = fields.operand(width)?;
+        Ok(Node::Keep {
+            child,
+            column,
             relation,
             operand,
-        },
-        rest,
-    ))
-}
+        })
+    }
 
-fn pick<'a>(widths: &[u8], bytes: &'a [u8]) -> Result<(Node, &'a [u8]), Cause>
-    ensures is { MatchResult result (λ p. spec.pick widths.now bytes.now ≡ Ok (p.0, p.1.now)) (λ e. spec.pick widths.now bytes.now ≡ Err (cause_number e)) }
-    ensures shorter { IfOk result (λ p. length p.1.now < length bytes.now) }
-{
-    let (c, rest) = lower(widths, bytes)?;
-    let (n, rest) = within(1, 8, rest)?;
-    let (columns, rest) = columns(n, widths[c as usize], rest)?;
-    Ok((
-        Node::Pick {
-            child: c,
-            count: n,
+    fn pick(&self, fields: &mut Fields) -> Result<Node, Cause>
+        ensures { Reads (spec.pick self.now.widths.now fields.old.rest.now) result fields.new.rest.now }
+    {
+        let child = fields.lower(self.widths)?;
+        let count = fields.within(1, 8)?;
+        let places = fields.columns(count, self.widths[child as usize])?;
+        let columns = Listed { count, places };
+        Ok(Node::Pick { child, columns })
+    }
+
+    fn pair(&self, fields: &mut Fields) -> Result<Node, Cause>
+        ensures { Reads (spec.pair self.now.widths.now fields.old.rest.now) result fields.new.rest.now }
+    {
+        let left = fields.lower(self.widths)?;
+        let right = fields.lower(self.widths)?;
+        let left_width = self.widths[left as usize];
+        let right_width = self.widths[right as usize];
+        let count = fields.within(0, 4)?;
+        let places = fields.pairs(count, left_width, right_width)?;
+        if left_width as usize + right_width as usize > 8 {
+            return Err(Cause::Width);
+        }
+        let pairs = Listed { count, places };
+        Ok(Node::Pair { left, right, pairs })
+    }
+
+    // The numbers of two lower nodes with rows of one width.
+    fn equal_sides(&self, fields: &mut Fields) -> Result<(u8, u8), Cause>
+        ensures { Reads (spec.equal_sides self.now.widths.now fields.old.rest.now) result fields.new.rest.now }
+    {
+        let left = fields.lower(self.widths)?;
+        let right = fields.lower(self.widths)?;
+        if self.widths[left as usize] != self.widths[right as usize] {
+            return Err(Cause::Width);
+        }
+        Ok((left, right))
+    }
+
+    fn total(&self, fields: &mut Fields) -> Result<Node, Cause>
+        ensures { Reads (spec.total self.now.shown self.now.widths.now fields.old.rest.now) result fields.new.rest.now }
+    {
+        let child = fields.lower(self.widths)?;
+        let width = self.widths[child as usize];
+        let measured = fields.column(width)?;
+        let count = fields.within(0, 7)?;
+        let places = fields.columns(count, width)?;
+        if count + 1 + self.shown > 8 {
+            return Err(Cause::Width);
+        }
+        let columns = Listed { count, places };
+        Ok(Node::Total {
+            child,
+            measured,
             columns,
-        },
-        rest,
-    ))
-}
-
-fn pair<'a>(widths: &[u8], bytes: &'a [u8]) -> Result<(Node, &'a [u8]), Cause>
-    ensures is { MatchResult result (λ p. spec.pair widths.now bytes.now ≡ Ok (p.0, p.1.now)) (λ e. spec.pair widths.now bytes.now ≡ Err (cause_number e)) }
-    ensures shorter { IfOk result (λ p. length p.1.now < length bytes.now) }
-{
-    let (l, rest) = lower(widths, bytes)?;
-    let (r, rest) = lower(widths, rest)?;
-    let left = widths[l as usize];
-    let right = widths[r as usize];
-    let (n, rest) = within(0, 4, rest)?;
-    let (pairs, rest) = pairs(n, left, right, rest)?;
-    if left as usize + right as usize > 8 {
-        return Err(Cause::Width);
+        })
     }
-    Ok((
-        Node::Pair {
-            left: l,
-            right: r,
-            count: n,
-            pairs,
-        },
-        rest,
-    ))
-}
 
-// The numbers of two lower nodes with rows of one width.
-fn equal_sides<'a>(widths: &[u8], bytes: &'a [u8]) -> Result<(u8, u8, &'a [u8]), Cause>
-    ensures is { MatchResult result (λ p. spec.equal_sides widths.now bytes.now ≡ Ok (p.0, p.1, p.2.now)) (λ e. spec.equal_sides widths.now bytes.now ≡ Err (cause_number e)) }
-    ensures shorter { IfOk result (λ p. length p.2.now < length bytes.now) }
-{
-    let (l, rest) = lower(widths, bytes)?;
-    let (r, rest) = lower(widths, rest)?;
-    if widths[l as usize] != widths[r as usize] {
-        return Err(Cause::Width);
-    }
-    Ok((l, r, rest))
-}
-
-fn both<'a>(widths: &[u8], bytes: &'a [u8]) -> Result<(Node, &'a [u8]), Cause>
-    ensures is { MatchResult result (λ p. spec.both widths.now bytes.now ≡ Ok (p.0, p.1.now)) (λ e. spec.both widths.now bytes.now ≡ Err (cause_number e)) }
-    ensures shorter { IfOk result (λ p. length p.1.now < length bytes.now) }
-{
-    let (l, r, rest) = equal_sides(widths, bytes)?;
-    Ok((Node::Both { left: l, right: r }, rest))
-}
-
-fn less<'a>(widths: &[u8], bytes: &'a [u8]) -> Result<(Node, &'a [u8]), Cause>
-    ensures is { MatchResult result (λ p. spec.less widths.now bytes.now ≡ Ok (p.0, p.1.now)) (λ e. spec.less widths.now bytes.now ≡ Err (cause_number e)) }
-    ensures shorter { IfOk result (λ p. length p.1.now < length bytes.now) }
-{
-    let (l, r, rest) = equal_sides(widths, bytes)?;
-    Ok((Node::Less { left: l, right: r }, rest))
-}
-
-fn total<'a>(shown: u8, widths: &[u8], bytes: &'a [u8]) -> Result<(Node, &'a [u8]), Cause>
-    requires { shown ≤ 8 }
-    ensures is { MatchResult result (λ p. spec.total shown widths.now bytes.now ≡ Ok (p.0, p.1.now)) (λ e. spec.total shown widths.now bytes.now ≡ Err (cause_number e)) }
-    ensures shorter { IfOk result (λ p. length p.1.now < length bytes.now) }
-{
-    let (c, rest) = lower(widths, bytes)?;
-    let width = widths[c as usize];
-    let (j, rest) = column(width, rest)?;
-    let (n, rest) = within(0, 7, rest)?;
-    let (columns, rest) = columns(n, width, rest)?;
-    if n + 1 + shown > 8 {
-        return Err(Cause::Width);
-    }
-    Ok((
-        Node::Total {
-            child: c,
-            measured: j,
-            count: n,
-            columns,
-        },
-        rest,
-    ))
-}
-
-pub(crate) fn node<'a>(shown: u8, widths: &[u8], bytes: &'a [u8]) -> Result<(Node, &'a [u8]), Cause>
-    requires { shown ≤ 8 }
-    ensures is { MatchResult result (λ p. spec.node shown widths.now bytes.now ≡ Ok (p.0, p.1.now)) (λ e. spec.node shown widths.now bytes.now ≡ Err (cause_number e)) }
-    ensures shorter { IfOk result (λ p. length p.1.now < length bytes.now) }
-{
-    let (operator, rest) = octet(bytes)?;
-    match operator {
-        0 => base(rest),
-        1 => keep(widths, rest),
-        2 => pick(widths, rest),
-        3 => pair(widths, rest),
-        4 => both(widths, rest),
-        5 => less(widths, rest),
-        6 => total(shown, widths, rest),
-        _ => Err(Cause::Value),
-    }
-}
-
-// How wide the rows of a node are that fits over nodes of these widths.
-pub(crate) fn width(shown: u8, widths: &[u8], node: Node) -> u8
-    requires { fits shown widths.now node ≡ true }
-    ensures { result ≡ width_by shown widths.now node }
-{
-    match node {
-        Node::Base { width: w } => w,
-        Node::Keep { child: c, .. } => widths[c as usize],
-        Node::Pick { count: n, .. } => n,
-        Node::Pair {
-            left: l,
-            right: r,
-            ..
-        } => widths[l as usize] + widths[r as usize],
-        Node::Both { left: l, .. } | Node::Less { left: l, .. } => widths[l as usize],
-        Node::Total { count: n, .. } => n + 1 + shown,
+    // How wide the rows of a node are that fits over the lower nodes.
+    pub(crate) fn width(&self, node: Node) -> u8
+        requires { fits self.now.shown self.now.widths.now node ≡ true }
+        ensures { result ≡ width_by self.now.shown self.now.widths.now node }
+    {
+        match node {
+            Node::Base { width } => width,
+            Node::Keep { child, .. } => self.widths[child as usize],
+            Node::Pick { columns, .. } => columns.count,
+            Node::Pair { left, right, .. } => self.widths[left as usize]
+                + self.widths[right as usize],
+            Node::Both { left, .. } | Node::Less { left, .. } => self.widths[left as usize],
+            Node::Total { columns, .. } => columns.count + 1 + self.shown,
+        }
     }
 }

@@ -6,7 +6,9 @@ use crate::node::Node;
 mod asking;
 mod checking;
 
-// A plan for a measure that shows `shown` columns: the first `len` nodes, each with the width of its rows.
+// A plan for a measure that shows `shown` columns, in fixed memory: the first `len` nodes, each with the width of its rows.
+// The nodes are no ArrayVec, since a plan can be copied and an ArrayVec cannot.
+// The widths stand beside the nodes, since whatever reads or asks for a node needs those of the lower nodes as one slice.
 // Every node names lower nodes and columns below their widths, and no row is wider than 8.
 #[derive(Clone, Copy)]
 pub struct Plan {

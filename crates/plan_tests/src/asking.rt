@@ -1,17 +1,13 @@
 use bag::condition::{Operand, Relation};
-use plan::node::Node;
+use plan::node::{ColumnPair, Listed, Node};
 use plan::plan::Plan;
-use std::test::Fail;
 
 // The width of a node's rows in a plan over rows of 3 columns: keep, pair, pick, total.
 fn width(i: usize) -> Option<u8> {
     let bytes = [
         0, 3, 1, 0, 2, 4, 0, 255, 255, 255, 254, 3, 0, 1, 1, 2, 0, 2, 2, 2, 5, 0, 6, 2, 3, 1, 4,
     ];
-    match Plan::check(&bytes, 2) {
-        Ok(plan) => plan.width(i),
-        Err(_) => None,
-    }
+    Plan::check(&bytes, 2).ok()?.width(i)
 }
 
 #[test]
@@ -26,19 +22,14 @@ fn widths_of_nodes(rt: HostRuntime) {
 
 // The number that column 2 is compared with in a plan of a base and a keep.
 fn constant(i: usize) -> Option<i32> {
-    let plan = match Plan::check(&[0, 3, 1, 0, 2, 4, 0, 255, 255, 255, 254], 2) {
-        Ok(plan) => plan,
-        Err(_) => return None,
-    };
-    match plan.node(i) {
-        Some(
-            Node::Keep {
-                child: 0,
-                column: 2,
-                relation: Relation::GreaterOrEqual,
-                operand: Operand::Constant(v),
-            },
-        ) => Some(v),
+    let plan = Plan::check(&[0, 3, 1, 0, 2, 4, 0, 255, 255, 255, 254], 2).ok()?;
+    match plan.node(i)? {
+        Node::Keep {
+            child: 0,
+            column: 2,
+            relation: Relation::GreaterOrEqual,
+            operand: Operand::Constant(v),
+        } => Some(v),
         _ => None,
     }
 }
@@ -50,88 +41,67 @@ fn nodes_of_a_plan(rt: HostRuntime) {
     assert_eq!(rt; constant(2), None);
 }
 
-// The columns of the second pair, and how many pairs there are.
-fn pair(bytes: &[u8]) -> (u8, u8, u8) {
-    let plan = match Plan::check(bytes, 0) {
-        Ok(plan) => plan,
-        Err(_) => return (9, 9, 9),
-    };
-    match plan.node(2) {
-        Some(
-            Node::Pair {
-                left: 0,
-                right: 1,
-                count,
-                pairs,
-            },
-        ) => (count, pairs[1].left, pairs[1].right),
-        _ => (9, 9, 9),
+// A pair of the bases 0 and 1 with the listed columns.
+fn pair(count: u8, places: [ColumnPair; 4]) -> Node {
+    Node::Pair {
+        left: 0,
+        right: 1,
+        pairs: Listed { count, places },
     }
 }
 
+const ZEROS: ColumnPair = ColumnPair { left: 0, right: 0 };
+
 #[test]
 fn pairs_keep_their_sides(rt: HostRuntime) {
-    assert_eq!(rt; pair(&[0, 4, 0, 3, 3, 0, 1, 2, 0, 0, 3, 1]), (2, 3, 1));
+    let two = Plan::check(&[0, 4, 0, 3, 3, 0, 1, 2, 0, 0, 3, 1], 0).ok();
     assert_eq!(rt;
-        pair(&[0, 4, 0, 3, 3, 0, 1, 1, 3, 1]),
-        (1, 0, 0),
+        two.and_then(|plan| plan.node(2)),
+        Some(pair(2, [ZEROS, ColumnPair { left: 3, right: 1 }, ZEROS, ZEROS]))
+    );
+    let one = Plan::check(&[0, 4, 0, 3, 3, 0, 1, 1, 3, 1], 0).ok();
+    assert_eq!(rt;
+        one.and_then(|plan| plan.node(2)),
+        Some(pair(1, [ColumnPair { left: 3, right: 1 }, ZEROS, ZEROS, ZEROS])),
         "unused places are 0"
     );
 }
 
 #[test]
-fn a_plan_keeps_the_shown_columns(rt: HostRuntime) -> Result<(), Fail> {
-    match Plan::check(&[0, 8], 3) {
-        Ok(plan) => assert_eq!(rt; plan.shown_columns(), 3),
-        Err(_) => assert_eq!(rt; 0, 3),
-    }
-    match Plan::check(&[0, 8], 200) {
-        Ok(plan) => {
-            assert_eq!(rt; plan.shown_columns(), 8);
-            Ok(())
-        },
-        Err(_) => {
-            assert_eq!(rt; 0, 8);
-            Ok(())
-        },
-    }
+fn a_plan_keeps_the_shown_columns(rt: HostRuntime) {
+    let three = Plan::check(&[0, 8], 3).ok();
+    assert_eq!(rt; three.map(|plan| plan.shown_columns()), Some(3));
+    let many = Plan::check(&[0, 8], 200).ok();
+    assert_eq!(rt; many.map(|plan| plan.shown_columns()), Some(8));
 }
 
-// Operator, fields and the first two listed columns of a node of a plan of all operators but keep and pair.
-fn fields(i: usize) -> (u8, u8, u8, u8, u8) {
+// A node of a plan of all operators but keep and pair.
+fn node(i: usize) -> Option<Node> {
     let bytes = [0, 3, 2, 0, 2, 2, 1, 4, 1, 1, 5, 2, 1, 6, 0, 2, 1, 1];
-    let Ok(plan) = Plan::check(&bytes, 2) else {
-        return (9, 9, 9, 9, 9);
-    };
-    match plan.node(i) {
-        Some(Node::Base { width }) => (0, width, 0, 0, 0),
-        Some(
-            Node::Pick {
-                child,
-                count,
-                columns,
-            },
-        ) => (2, child, count, columns[0], columns[1]),
-        Some(Node::Both { left, right }) => (4, left, right, 0, 0),
-        Some(Node::Less { left, right }) => (5, left, right, 0, 0),
-        Some(
-            Node::Total {
-                child,
-                measured,
-                count,
-                columns,
-            },
-        ) => (6, child, measured, count, columns[0]),
-        _ => (9, 9, 9, 9, 9),
-    }
+    Plan::check(&bytes, 2).ok()?.node(i)
 }
 
 #[test]
 fn each_operator_comes_back(rt: HostRuntime) {
-    assert_eq!(rt; fields(0), (0, 3, 0, 0, 0));
-    assert_eq!(rt; fields(1), (2, 0, 2, 2, 1));
-    assert_eq!(rt; fields(2), (4, 1, 1, 0, 0));
-    assert_eq!(rt; fields(3), (5, 2, 1, 0, 0));
-    assert_eq!(rt; fields(4), (6, 0, 2, 1, 1));
-    assert_eq!(rt; fields(5), (9, 9, 9, 9, 9), "there is no node 5");
+    assert_eq!(rt; node(0), Some(Node::Base { width: 3 }));
+    let columns = Listed {
+        count: 2,
+        places: [2, 1, 0, 0, 0, 0, 0, 0],
+    };
+    assert_eq!(rt; node(1), Some(Node::Pick { child: 0, columns }));
+    assert_eq!(rt; node(2), Some(Node::Both { left: 1, right: 1 }));
+    assert_eq!(rt; node(3), Some(Node::Less { left: 2, right: 1 }));
+    let columns = Listed {
+        count: 1,
+        places: [1, 0, 0, 0, 0, 0, 0, 0],
+    };
+    assert_eq!(rt;
+        node(4),
+        Some(Node::Total {
+            child: 0,
+            measured: 2,
+            columns,
+        })
+    );
+    assert_eq!(rt; node(5), None, "there is no node 5");
 }

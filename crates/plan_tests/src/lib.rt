@@ -5,6 +5,8 @@
 #[cfg(test)]
 mod asking;
 #[cfg(test)]
+mod checking;
+#[cfg(test)]
 mod lists;
 #[cfg(test)]
 mod nodes;

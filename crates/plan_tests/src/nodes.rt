@@ -1,26 +1,11 @@
+use crate::checking::check;
 use plan::plan::Plan;
 use std::test::Fail;
 
-// How many nodes a plan has, or the node and the cause of its refusal.
-fn check(bytes: &[u8], shown: u8) -> Result<usize, (u8, u8)> {
-    match Plan::check(bytes, shown) {
-        Ok(plan) => Ok(plan.len()),
-        Err(fault) => Err(fault.place()),
-    }
-}
-
 #[test]
-fn a_refusal_has_the_number_12(rt: HostRuntime) -> Result<(), Fail> {
-    match Plan::check(&[0, 9], 1) {
-        Ok(_) => {
-            assert_eq!(rt; 0, 12);
-            Ok(())
-        },
-        Err(fault) => {
-            assert_eq!(rt; fault.number(), 12);
-            Ok(())
-        },
-    }
+fn a_refusal_has_the_number_12(rt: HostRuntime) {
+    let fault = Plan::check(&[0, 9], 1).err();
+    assert_eq!(rt; fault.map(|fault| fault.number()), Some(12));
 }
 
 #[test]
@@ -100,23 +85,17 @@ fn a_number_of_keep_has_four_bytes(rt: HostRuntime) {
 
 #[test]
 fn keep_has_six_relations(rt: HostRuntime) {
-    assert_eq!(rt; check(&[0, 2, 1, 0, 1, 0, 1, 0], 1), Ok(2));
-    assert_eq!(rt; check(&[0, 2, 1, 0, 1, 1, 1, 0], 1), Ok(2));
-    assert_eq!(rt; check(&[0, 2, 1, 0, 1, 2, 1, 0], 1), Ok(2));
-    assert_eq!(rt; check(&[0, 2, 1, 0, 1, 3, 1, 0], 1), Ok(2));
-    assert_eq!(rt; check(&[0, 2, 1, 0, 1, 4, 1, 0], 1), Ok(2));
-    assert_eq!(rt; check(&[0, 2, 1, 0, 1, 5, 1, 0], 1), Ok(2));
+    for relation in [0, 1, 2, 3, 4, 5] {
+        assert_eq!(rt; check(&[0, 2, 1, 0, 1, relation, 1, 0], 1), Ok(2));
+    }
     assert_eq!(rt; check(&[0, 2, 1, 0, 1, 255, 1, 0], 1), Err((1, 2)));
 }
 
 #[test]
 fn no_operator_but_base_comes_first(rt: HostRuntime) {
-    assert_eq!(rt; check(&[1, 0], 1), Err((0, 3)));
-    assert_eq!(rt; check(&[2, 0], 1), Err((0, 3)));
-    assert_eq!(rt; check(&[3, 0], 1), Err((0, 3)));
-    assert_eq!(rt; check(&[4, 0], 1), Err((0, 3)));
-    assert_eq!(rt; check(&[5, 0], 1), Err((0, 3)));
-    assert_eq!(rt; check(&[6, 0], 1), Err((0, 3)));
+    for operator in [1, 2, 3, 4, 5, 6] {
+        assert_eq!(rt; check(&[operator, 0], 1), Err((0, 3)));
+    }
     assert_eq!(rt; check(&[0, 2, 4, 0, 255], 1), Err((1, 3)));
 }
 

@@ -1,11 +1,8 @@
-use plan::plan::Plan;
+use crate::checking;
 
-// How many nodes a plan has, or the node and the cause of its refusal.
+// For a measure that shows one column.
 fn check(bytes: &[u8]) -> Result<usize, (u8, u8)> {
-    match Plan::check(bytes, 1) {
-        Ok(plan) => Ok(plan.len()),
-        Err(fault) => Err(fault.place()),
-    }
+    checking::check(bytes, 1)
 }
 
 #[test]

@@ -32,10 +32,7 @@ impl Plan {
         ensures bound { IfSome result (λ x. OneToEight (width_by self.now.shown (widths_of self.now) x)) }
         ensures handed { IfSome result (λ x. Handed self.now.shown (widths_of self.now) i x) }
     {
-        if i >= self.len {
-            return None;
-        }
-        Some(self.nodes[i])
+        self.nodes[..self.len].get(i).copied()
     }
 
     // How many columns the rows of the node with this number have.
@@ -44,9 +41,6 @@ impl Plan {
         ensures bound { IfSome result (λ w. w ≤ 8) }
         ensures one_to_eight { IfSome result OneToEight }
     {
-        if i >= self.len {
-            return None;
-        }
-        Some(self.widths[i])
+        self.widths[..self.len].get(i).copied()
     }
 }

@@ -5,9 +5,20 @@ ghost use Rattle.plan.specs.Laws.{PlanOrBroken};
 ghost use Rattle.plan.specs.Plans.{listed};
 
 use crate::fault::{Cause, PlanFault};
+use crate::field::Fields;
 use crate::node::Node;
-use crate::operator::{node, width};
+use crate::operator::LowerNodes;
 use crate::plan::Plan;
+
+const NO_NODE: PlanFault = PlanFault {
+    node: 0,
+    cause: Cause::Nodes,
+};
+
+const TOO_MANY_NODES: PlanFault = PlanFault {
+    node: 16,
+    cause: Cause::Nodes,
+};
 
 impl Plan {
     // The plan that the bytes say, for a measure that shows `shown` columns.
@@ -17,26 +28,30 @@ impl Plan {
         ensures meaning { PlanOrBroken shown bytes.now (listed result) }
         ensures shown { IfOk result (λ p. p.shown ≡ keptColumns shown) }
     {
-        if bytes.len() == 0 {
-            return Err(PlanFault::at(0, Cause::Nodes));
+        if bytes.is_empty() {
+            return Err(NO_NODE);
         }
         let showing = shown.min(8);
         let mut nodes = [Node::Base { width: 1 }; 16];
         let mut widths = [0; 16];
         let mut len: usize = 0;
-        let mut rest = bytes;
-        while rest.len() > 0 {
+        let mut fields = Fields { rest: bytes };
+        while !fields.rest.is_empty() {
             if len >= 16 {
-                return Err(PlanFault::at(16, Cause::Nodes));
+                return Err(TOO_MANY_NODES);
             }
-            let (next, left) = match node(showing, &widths[0..len], rest) {
-                Ok(read) => read,
-                Err(cause) => return Err(PlanFault::at(len as u8, cause)),
+            let lower = LowerNodes {
+                widths: &widths[..len],
+                shown: showing,
             };
-            widths[len] = width(showing, &widths[0..len], next);
-            nodes[len] = next;
+            let node = lower.node(&mut fields).map_err(|cause| PlanFault {
+                node: len as u8,
+                cause,
+            })?;
+            let width = lower.width(node);
+            nodes[len] = node;
+            widths[len] = width;
             len += 1;
-            rest = left;
         }
         Ok(Plan {
             nodes,
