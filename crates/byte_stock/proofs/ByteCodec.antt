@@ -2,7 +2,7 @@
 --     length_line, length_layout      35 bytes for each line
 --     line_back                       a lawful line is read from its bytes as it was
 --     stored_back                     and so are lines laid one behind the other
-use Rattle.std.proofs.Common.{◌≡◌, ℕ, zero, suc, ◌+◌, ◌*◌, ◌/◌, ◌%◌, ◌^◌, ◌<◌, ◌≤◌, List, [], ◌∷◌, ◌++◌, length, get_or, drop, ℤ, sym, refl, ap, ◌∙◌, subst, ap₂, append_assoc, add_assoc, mod-eq_of_lt, arith, length-append, w32, SFits, to_z, of_z}
+use Rattle.std.proofs.Common.{◌≡◌, ℕ, zero, suc, ◌+◌, ◌*◌, ◌/◌, ◌%◌, ◌^◌, ◌<◌, ◌≤◌, List, [], ◌∷◌, ◌++◌, length, get_or, take, drop, ℤ, sym, refl, ap, ◌∙◌, subst, ap₂, append_assoc, add_assoc, mod-eq_of_lt, arith, length-append, w32, SFits, to_z, of_z}
 use Rattle.std.specs.List.{flat_map, AllByRecursion}
 use Rattle.std.proofs.lemmas.Int.{to_z-of_z, ints}
 use Rattle.std.proofs.lemmas.Nat.{shr-shr, shr_split, shr_below}
@@ -49,13 +49,20 @@ unfolding layout
 length_layout [] a = refl
 length_layout (l ∷ ls) a = omega (arith, length-append (line_bytes l) (layout ls), length_line l a.0.row.0, length_layout ls a.1)
 
-four_shift : (b : List ℕ) (p k : ℕ) → four_at b (p + k) ≡ four_at (drop p b) k
+pub four_taken : (b : List ℕ) → four_at (take 4 b) 0 ≡ four_at b 0
+four_taken [] = refl
+four_taken (a ∷ []) = refl
+four_taken (a ∷ b ∷ []) = refl
+four_taken (a ∷ b ∷ c ∷ []) = refl
+four_taken (a ∷ b ∷ c ∷ d ∷ r) = refl
+
+pub four_shift : (b : List ℕ) (p k : ℕ) → four_at b (p + k) ≡ four_at (drop p b) k
 four_shift b p k = simp (get_or-drop, add_assoc)
 
-two_shift : (b : List ℕ) (p k : ℕ) → two_at b (p + k) ≡ two_at (drop p b) k
+pub two_shift : (b : List ℕ) (p k : ℕ) → two_at b (p + k) ≡ two_at (drop p b) k
 two_shift b p k = simp (get_or-drop, add_assoc)
 
-row_shift : (b : List ℕ) (p k : ℕ) → row_at b (p + k) ≡ row_at (drop p b) k
+pub row_shift : (b : List ℕ) (p k : ℕ) → row_at b (p + k) ≡ row_at (drop p b) k
 unfolding row_at
 row_shift b p k = simp (get_or-drop, add_assoc)
 

@@ -1,10 +1,16 @@
 -- From stored lines to the bytes that hold them. Assumes nothing.
+--     SoundLines b len               what a stock keeps, told of its bytes and of how many lines there are
+--     PutLeft, TakeLeft              all that a put and a take leave in bytes, and that the bytes are sound
 --     sound_from                     bytes that hold kept lines, and 00 behind them, are sound
---     put_left, take_left            what a call leaves, from what it makes of the lines
+--     left_from, left_same           what a call leaves, from what it makes of the lines; a call that changes nothing
 --     bytes_set, bytes_push, bytes_freed      what the writes leave
---     at_place_is, nowhere_is        what a search finds, told of the lines
-use Rattle.std.proofs.Common.{◌≡◌, ℕ, ◌+◌, ◌-◌, ◌*◌, ◌<◌, true, eqb, List, [], ◌∷◌, ◌++◌, length, take, set, replicate, Result, Ordering, Less, Equal, Greater, sym, refl, ap, ◌∙◌, subst, ap₂, arith}
+--     order_decides                  comparing two rows decides whether they are the same
+--     found_at, found_none           what the place of a line says of the lines
+use Rattle.std.proofs.Common.{◌≡◌, ℕ, zero, suc, ◌+◌, ◌-◌, ◌*◌, ◌<◌, ◌≤◌, Bool, true, false, cond, eqb, Some, None, Option, List, [], ◌∷◌, ◌++◌, length, take, set, replicate, Result, Decides, sym, refl, ap, ◌∙◌, subst, ap₂, arith}
+use Rattle.std.specs.Ordering.{is_eq}
+use Rattle.std.specs.Cmp.{Equal-is}
 use Rattle.std.specs.List.{AllByRecursion}
+use Rattle.std.specs.Option.{option_map}
 use Rattle.std.proofs.lemmas.Bool.{and_parts, eqb-true, both_ways}
 use Rattle.std.proofs.lemmas.List.{length-set, length_push}
 use Rattle.std.proofs.ByRecursion.{All-get_or, All-set}
@@ -12,21 +18,41 @@ use Rattle.std.proofs.lemmas.List.FromFn.{length-map-range_with_len, get_or-map-
 use Rattle.bag.specs.Order.{Row, row_order}
 use Rattle.bag.specs.Lines.{blank_stock_line}
 use Rattle.bag.specs.declared.lines.StockLine.{StockLine}
-use Rattle.bag.specs.RowOrder.{order_equal}
+use Rattle.bag.specs.RowOrder.{order_equal, order_itself}
 use Rattle.stock.specs.declared.fault.StockFault.{StockFault}
 use Rattle.bag.specs.Refusal.{Refusal}
 use Rattle.stock.specs.Refusal.{told}
-use Rattle.stock.specs.Holding.{LawfulHolding}
-use Rattle.byte_stock.specs.ByteLines.{line_bytes, layout, padded, line_at, stored_in, laid, freed_bytes}
+use Rattle.stock.specs.Holding.{Holding, put_answer, after_put, take_answer, after_take}
+use Rattle.byte_stock.specs.ByteLines.{line_bytes, layout, padded, line_at, stored_in, capacity_in, laid, freed_bytes}
 use Rattle.stock.specs.Holding.{LawfulLine}
-use Rattle.byte_stock.specs.ByteStored.{Stored, line_of, Apart, holding_of, is_equal, has_key, freed}
-use Rattle.byte_stock.specs.ByteStocks.{capacity_in, SoundLines, PutLeft, TakeLeft}
-use Rattle.byte_stock.specs.ByteSearch.{Nowhere, AtPlace}
+use Rattle.byte_stock.specs.ByteStored.{Stored, line_of, Apart, holding_of, has_key, place_of, freed, lines_after_put, lines_after_take}
 use Rattle.byte_stock.proofs.ByteCodec.{stored_back}
 use Rattle.byte_stock.proofs.ByteWrites.{set_laid, append_laid, shrink_laid}
-use Rattle.byte_stock.proofs.ByteTally.{Absent}
-use Rattle.byte_stock.proofs.ByteLawful.{lawful_stored}
-use Rattle.byte_stock.proofs.ByteSteps.{Kept, PutMakes, TakeMakes, key_true, length_freed}
+use Rattle.byte_stock.specs.ByteTally.{Absent}
+use Rattle.byte_stock.proofs.ByteSteps.{Kept, Makes, key_true, length_freed}
+
+abbrev pub held_in : List ℕ → ℕ → Holding
+held_in b len = holding_of (capacity_in (length b)) (stored_in len b)
+
+pub record SoundLines (b : List ℕ) (len : ℕ) : Type 0 where
+  pub room : len ≤ capacity_in (length b)
+  pub lawful : AllByRecursion LawfulLine (stored_in len b)
+  pub apart : Apart (stored_in len b)
+  pub whole : b ≡ padded (length b) (stored_in len b)
+
+-- a call over the bytes b answers and leaves what it is to: the answer a, the lines `made`, and `holding`
+pub record Left (b : List ℕ) (a : Result (Unit {0}) Refusal) (holding : Holding) (made : Stored) (answered : Result (Unit {0}) StockFault) (bytes_after : List ℕ) (len_after : ℕ) : Type 0 where
+  pub answer : told answered ≡ a
+  pub after : held_in bytes_after len_after ≡ holding
+  pub lines : stored_in len_after bytes_after ≡ made
+  pub bytes : bytes_after ≡ padded (length b) made
+  pub sound : SoundLines bytes_after len_after
+
+abbrev pub PutLeft : List ℕ → ℕ → ℕ → Row → ℕ → Result (Unit {0}) StockFault → List ℕ → ℕ → Type 0
+PutLeft b len s r n = Left b (put_answer (held_in b len) s r n) (after_put (held_in b len) s r n) (lines_after_put (capacity_in (length b)) s r n (stored_in len b))
+
+abbrev pub TakeLeft : List ℕ → ℕ → ℕ → Row → ℕ → Result (Unit {0}) StockFault → List ℕ → ℕ → Type 0
+TakeLeft b len s r n = Left b (take_answer (held_in b len) s r n) (after_take (held_in b len) s r n) (lines_after_take (capacity_in (length b)) s r n (stored_in len b))
 
 pub length_stored : (b : List ℕ) (len : ℕ) → length (stored_in len b) ≡ len
 length_stored b len = length-map-range_with_len (line_at b) 0 len
@@ -49,45 +75,25 @@ sound_from b len ks k e n =
       lawful = subst (AllByRecursion LawfulLine) (sym s) k.lawful;
       apart = subst Apart (sym s) k.apart;
       whole = e ∙ ap (padded (length b)) (sym s);
-      holding = subst (λ (x : Stored). LawfulHolding (holding_of (capacity_in (length b)) x)) (sym s) (lawful_stored (capacity_in (length b)) ks k.lawful k.apart k.room (omega arith));
     }
 
-pub put_left : (b : List ℕ) (len s : ℕ) (r : Row) (n : ℕ) (answered : Result (Unit {0}) StockFault) (d : List ℕ) (len_after : ℕ) (ks : Stored) (x : Result (Unit {0}) Refusal) →
-    PutMakes (capacity_in (length b)) s r n (stored_in len b) ks x → told answered ≡ x → length d ≡ length b → d ≡ padded (length b) ks → len_after ≡ length ks → PutLeft b len s r n answered d len_after
-put_left b len s r n answered d len_after ks x m t l e k =
-    let f : d ≡ padded (length d) ks = e ∙ ap (λ z. padded z ks) (sym l) in
-    let g : Kept (capacity_in (length d)) ks = subst (λ z. Kept (capacity_in z) ks) (sym l) m.kept in
-    let w = stored_from d len_after ks m.kept.lawful f k in
-    record {
-      answer = t ∙ sym m.answer;
-      after = ap₂ (λ z y. holding_of (capacity_in z) y) l w ∙ sym m.after;
-      lines = w ∙ sym m.lines;
-      bytes = e ∙ ap (padded (length b)) (sym m.lines);
-      sound = sound_from d len_after ks g f k;
-    }
+module _ (b : List ℕ) {a : Result (Unit {0}) Refusal} {holding : Holding} {made : Stored} (answered : Result (Unit {0}) StockFault) where
+  pub left_from : (d : List ℕ) (len_after : ℕ) (ks : Stored) (x : Result (Unit {0}) Refusal) → Makes (capacity_in (length b)) a holding made ks x → told answered ≡ x → length d ≡ length b → d ≡ padded (length b) ks → len_after ≡ length ks → Left b a holding made answered d len_after
+  left_from d len_after ks x m t l e k =
+      let f : d ≡ padded (length d) ks = e ∙ ap (λ z. padded z ks) (sym l) in
+      let g : Kept (capacity_in (length d)) ks = subst (λ z. Kept (capacity_in z) ks) (sym l) m.kept in
+      let w = stored_from d len_after ks m.kept.lawful f k in
+      record {
+        answer = t ∙ sym m.answer;
+        after = ap₂ (λ z y. holding_of (capacity_in z) y) l w ∙ sym m.after;
+        lines = w ∙ sym m.lines;
+        bytes = e ∙ ap (padded (length b)) (sym m.lines);
+        sound = sound_from d len_after ks g f k;
+      }
 
-pub take_left : (b : List ℕ) (len s : ℕ) (r : Row) (n : ℕ) (answered : Result (Unit {0}) StockFault) (d : List ℕ) (len_after : ℕ) (ks : Stored) (x : Result (Unit {0}) Refusal) →
-    TakeMakes (capacity_in (length b)) s r n (stored_in len b) ks x → told answered ≡ x → length d ≡ length b → d ≡ padded (length b) ks → len_after ≡ length ks → TakeLeft b len s r n answered d len_after
-take_left b len s r n answered d len_after ks x m t l e k =
-    let f : d ≡ padded (length d) ks = e ∙ ap (λ z. padded z ks) (sym l) in
-    let g : Kept (capacity_in (length d)) ks = subst (λ z. Kept (capacity_in z) ks) (sym l) m.kept in
-    let w = stored_from d len_after ks m.kept.lawful f k in
-    record {
-      answer = t ∙ sym m.answer;
-      after = ap₂ (λ z y. holding_of (capacity_in z) y) l w ∙ sym m.after;
-      lines = w ∙ sym m.lines;
-      bytes = e ∙ ap (padded (length b)) (sym m.lines);
-      sound = sound_from d len_after ks g f k;
-    }
-
--- a call that changes nothing
-pub put_same : (b : List ℕ) (len s : ℕ) (r : Row) (n : ℕ) (answered : Result (Unit {0}) StockFault) (x : Result (Unit {0}) Refusal) → SoundLines b len →
-    PutMakes (capacity_in (length b)) s r n (stored_in len b) (stored_in len b) x → told answered ≡ x → PutLeft b len s r n answered b len
-put_same b len s r n answered x h m t = put_left b len s r n answered b len (stored_in len b) x m t refl h.whole (sym (length_stored b len))
-
-pub take_same : (b : List ℕ) (len s : ℕ) (r : Row) (n : ℕ) (answered : Result (Unit {0}) StockFault) (x : Result (Unit {0}) Refusal) → SoundLines b len →
-    TakeMakes (capacity_in (length b)) s r n (stored_in len b) (stored_in len b) x → told answered ≡ x → TakeLeft b len s r n answered b len
-take_same b len s r n answered x h m t = take_left b len s r n answered b len (stored_in len b) x m t refl h.whole (sym (length_stored b len))
+  -- a call that changes nothing
+  pub left_same : (len : ℕ) (x : Result (Unit {0}) Refusal) → SoundLines b len → Makes (capacity_in (length b)) a holding made (stored_in len b) x → told answered ≡ x → Left b a holding made answered b len
+  left_same len x h m t = left_from b len (stored_in len b) x m t refl h.whole (sym (length_stored b len))
 
 -- the writes
 pub bytes_set : (b : List ℕ) (ls : Stored) (i : ℕ) (l : StockLine) → AllByRecursion LawfulLine ls → LawfulLine l → i < length ls → b ≡ padded (length b) ls → laid b (35 * i) (line_bytes l) ≡ padded (length b) (set ls i l)
@@ -128,34 +134,52 @@ bytes_freed b len i h k =
     ∙ ap (λ x. layout (freed i ls) ++ replicate x 0) (omega arith)
 
 -- what a search finds
-equal_only : (o : Ordering) → is_equal o ≡ true → o ≡ Equal
-equal_only Less h = let z : ◌≡◌ {A = ℕ} 0 1 = cc in absurd (omega arith)
-equal_only Equal h = refl
-equal_only Greater h = let z : ◌≡◌ {A = ℕ} 0 1 = cc in absurd (omega arith)
+pub order_decides : (a b : Row) → Decides (is_eq (row_order a b)) (a ≡ b)
+order_decides a b = (λ t. order_equal a b ((Equal-is (row_order a b)).0 t), λ e. ap is_eq (ap (row_order a) (sym e) ∙ order_itself a))
 
 pub record LineAtPlace (ls : Stored) (s : ℕ) (r : Row) (i : ℕ) : Type 0 where
   pub inside : i < length ls
   pub shelf : (line_of ls i).shelf ≡ s
   pub row : (line_of ls i).row ≡ r
 
-pub at_place_is : (b : List ℕ) (len s : ℕ) (r : Row) (i : ℕ) → AtPlace b len s r i → LineAtPlace (stored_in len b) s r i
-at_place_is b len s r i h =
-    let n = length_stored b len in
-    let m = h.inside in
-    let e = line_in b len i m in
-    let k = and_parts (eqb (line_at b i).shelf s) (is_equal (row_order (line_at b i).row r)) h.key in
-    record {
-      inside = omega arith;
-      shelf = ap (λ (l : StockLine). l.shelf) e ∙ eqb-true (line_at b i).shelf s k.0;
-      row = ap (λ (l : StockLine). l.row) e ∙ order_equal (line_at b i).row r (equal_only (row_order (line_at b i).row r) k.1);
-    }
+key_parts : (l : StockLine) (s : ℕ) (r : Row) → has_key s r l ≡ true → (l.shelf ≡ s) × (l.row ≡ r)
+key_parts l s r h =
+    let k = and_parts (eqb l.shelf s) (is_eq (row_order l.row r)) h in
+    (eqb-true l.shelf s k.0, (order_decides l.row r).0 k.1)
 
-pub nowhere_is : (b : List ℕ) (len s : ℕ) (r : Row) → Nowhere b len s r → Absent s r (stored_in len b)
-nowhere_is b len s r h k a e f =
-    let n = length_stored b len in
-    let m : k < len = omega arith in
-    let l = line_in b len k m in
-    both_ways (has_key s r (line_at b k)) (h k m) (key_true (line_at b k) s r (sym (ap (λ (x : StockLine). x.shelf) l) ∙ e) (sym (ap (λ (x : StockLine). x.row) l) ∙ f))
+none_or_some : {X : Type 0} {x : X} → ◌≡◌ {A = Option X} None (Some x) → ⊥
+none_or_some e = let z : ◌≡◌ {A = ℕ} 0 1 = cc in let y : ⊥ = omega arith in y
+
+pub found_at : (s : ℕ) (r : Row) (ls : Stored) (i : ℕ) → place_of s r ls ≡ Some i → LineAtPlace ls s r i
+unfolding place_of
+found_at s r [] i e = absurd (none_or_some e)
+found_at s r (l ∷ ls) i e = by (has_key s r l) refl (place_of s r ls) refl (found_at s r ls) e
+  where
+    behind : (j : ℕ) → LineAtPlace ls s r j → i ≡ suc j → LineAtPlace (l ∷ ls) s r i
+    behind j p q = subst (LineAtPlace (l ∷ ls) s r) (sym q) (let m = p.inside in record { inside = omega arith; shelf = p.shelf; row = p.row })
+
+    by : (b : Bool) → has_key s r l ≡ b → (o : Option ℕ) → place_of s r ls ≡ o → ((j : ℕ) → place_of s r ls ≡ Some j → LineAtPlace ls s r j) →
+        cond b (Some 0) (option_map suc o) ≡ Some i → LineAtPlace (l ∷ ls) s r i
+    by true h o q ih e =
+        let k = key_parts l s r h in
+        let z : i ≡ 0 = cc in
+        subst (LineAtPlace (l ∷ ls) s r) (sym z) (record { inside = omega arith; shelf = k.0; row = k.1 })
+    by false h None q ih e = absurd (none_or_some e)
+    by false h (Some j) q ih e = behind j (ih j q) (let z : i ≡ suc j = cc in z)
+
+pub found_none : (s : ℕ) (r : Row) (ls : Stored) → place_of s r ls ≡ None → Absent s r ls
+unfolding place_of
+found_none s r [] e = λ k h. absurd (omega arith)
+found_none s r (l ∷ ls) e = by (has_key s r l) refl (place_of s r ls) refl (found_none s r ls) e
+  where
+    both : has_key s r l ≡ false → Absent s r ls → (k : ℕ) → k < suc (length ls) → (line_of (l ∷ ls) k).shelf ≡ s → (line_of (l ∷ ls) k).row ≡ r → ⊥
+    both h rest zero m f g = both_ways (has_key s r l) h (key_true l s r f g)
+    both h rest (suc k) m f g = rest k (omega arith) f g
+
+    by : (b : Bool) → has_key s r l ≡ b → (o : Option ℕ) → place_of s r ls ≡ o → (place_of s r ls ≡ None → Absent s r ls) → cond b (Some 0) (option_map suc o) ≡ None → Absent s r (l ∷ ls)
+    by true h o q ih e = absurd (none_or_some (sym e))
+    by false h (Some j) q ih e = absurd (none_or_some (sym e))
+    by false h None q ih e = both h (ih q)
 
 -- a stock without lines
 pub none_kept : (c : ℕ) → Kept c []

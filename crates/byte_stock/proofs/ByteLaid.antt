@@ -1,5 +1,5 @@
 -- Bytes laid into bytes, one run behind the other. Assumes nothing.
-use Rattle.std.proofs.Common.{◌≡◌, ℕ, ◌+◌, ◌-◌, ◌≤◌, List, [], ◌++◌, length, take, drop, sym, refl, ap, ◌∙◌, append_assoc, arith, length-append}
+use Rattle.std.proofs.Common.{◌≡◌, ℕ, ◌+◌, ◌-◌, ◌≤◌, List, ◌++◌, length, take, drop, sym, refl, ap, ◌∙◌, append_assoc, arith, length-append}
 use borrow.Rule.Slice.PartMut.{put_mid}
 use Rattle.std.proofs.lemmas.List.{drop-drop, length-take-le, take_at, drop_at}
 use Rattle.byte_stock.specs.ByteLines.{laid}
@@ -30,17 +30,3 @@ module _ (buffer : List ℕ) (at : ℕ) (xs : List ℕ) (room : at + length xs �
       ∙ (ap (λ (l : List ℕ). (take at buffer ++ xs) ++ (ys ++ l)) g
       ∙ (append_assoc (take at buffer) xs (ys ++ drop (at + length (xs ++ ys)) buffer)
       ∙ ap (λ (l : List ℕ). take at buffer ++ l) (sym (append_assoc xs ys (drop (at + length (xs ++ ys)) buffer)))))
-
--- bytes from the start on
-pub laid_first : (buffer bytes : List ℕ) → laid buffer 0 bytes ≡ bytes ++ drop (length bytes) buffer
-unfolding laid
-laid_first buffer bytes = ap (λ n. bytes ++ drop n buffer) (omega arith)
-
-pub laid_nothing : (buffer : List ℕ) (at : ℕ) → laid buffer at [] ≡ take at buffer ++ drop at buffer
-unfolding laid
-laid_nothing buffer at = ap (λ n. take at buffer ++ drop n buffer) (omega arith)
-
--- bytes laid behind bytes that were laid: what the buffer holds, and the place behind them
-pub laid_then : (b b' b'' xs ys : List ℕ) (at mid end : ℕ) → at + length xs ≤ length b → b' ≡ laid b at xs → mid ≡ at + length xs → b'' ≡ laid b' mid ys → end ≡ mid + length ys → (b'' ≡ laid b at (xs ++ ys)) × (end ≡ at + length (xs ++ ys))
-laid_then b b' b'' xs ys at mid end room e m f g =
-    (f ∙ (ap (λ l. laid l mid ys) e ∙ (ap (λ n. laid (laid b at xs) n ys) m ∙ laid_more b at xs room ys)), omega (arith, length-append xs ys))

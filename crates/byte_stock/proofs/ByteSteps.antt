@@ -1,8 +1,9 @@
 -- What a put and a take make of stored lines, case by case. Assumes nothing.
 --     place_found, place_none                     where a line is
 --     Kept, kept_set, kept_push, kept_freed       the lines after are lawful, apart and fit
---     put_node .. put_new, take_node .. take_idle what each case answers and leaves
+--     put_over .. put_new, take_short .. take_idle what each case answers and leaves
 use Rattle.std.proofs.Common.{◌≡◌, ℕ, zero, suc, ◌+◌, ◌-◌, ◌<◌, ◌≤◌, Bool, true, false, cond, eqb, ltb, ◌⊎◌, [], ◌∷◌, ◌++◌, length, take, set, ℤ, pos, ◌+ℤ◌, neg_ℤ, Some, None, Ok, Err, Option, Result, Ordering, Less, Equal, Greater, sym, refl, ap, ◌∙◌, ap₂, inl, inr, arith}
+use Rattle.std.specs.Ordering.{is_eq}
 use Rattle.std.specs.List.{AllByRecursion}
 use Rattle.std.specs.Option.{option_map}
 use Rattle.std.proofs.lemmas.Int.{ints}
@@ -18,25 +19,25 @@ use Rattle.bag.specs.Refusal.{Refusal, refusal, left_by}
 use Rattle.bag.specs.Columns.{IsRow}
 use Rattle.stock.specs.Holding.{Holding, copies, with_copies, lacks_room, put_answer, after_put, take_answer, after_take}
 use Rattle.stock.specs.Holding.{LawfulLine}
-use Rattle.byte_stock.specs.ByteStored.{Stored, line_of, Apart, holding_of, is_equal, has_key, place_of, new_line, added_at, freed, removed_at, lines_after_put, lines_after_take}
-use Rattle.byte_stock.proofs.ByteTally.{tally, worth, line_worth, Absent, worth_adds, tally_push, tally_set, shelves_moved, lines_are_length}
-use Rattle.byte_stock.proofs.ByteLawful.{copies_found, copies_none}
+use Rattle.byte_stock.specs.ByteStored.{Stored, line_of, Apart, holding_of, has_key, place_of, new_line, added_at, added, freed, removed_at, removed, lines_after_put, lines_after_take}
+use Rattle.byte_stock.specs.ByteTally.{tally, worth, line_worth, Absent, worth_adds, tally_push, tally_set, shelves_moved, lines_are_length}
+use Rattle.byte_stock.specs.ByteLawful.{copies_found, copies_none}
 
 -- where a line is
 pub key_true : (l : StockLine) (s : ℕ) (r : Row) → l.shelf ≡ s → l.row ≡ r → has_key s r l ≡ true
-key_true l s r e f = and_from (eqb l.shelf s) (is_equal (row_order l.row r)) (eq-eqb l.shelf s e) (ap is_equal (ap (row_order l.row) (sym f) ∙ order_itself l.row))
+key_true l s r e f = and_from (eqb l.shelf s) (is_eq (row_order l.row r)) (eq-eqb l.shelf s e) (ap is_eq (ap (row_order l.row) (sym f) ∙ order_itself l.row))
 
 key_false : (l : StockLine) (s : ℕ) (r : Row) → (l.shelf ≡ s → l.row ≡ r → ⊥) → has_key s r l ≡ false
 key_false l s r h = by (cases_eq l.shelf s)
   where
-    row : l.shelf ≡ s → (o : Ordering) → row_order l.row r ≡ o → is_equal o ≡ false
+    row : l.shelf ≡ s → (o : Ordering) → row_order l.row r ≡ o → is_eq o ≡ false
     row e Less p = refl
     row e Equal p = absurd (h e (order_equal l.row r p))
     row e Greater p = refl
 
     by : (l.shelf ≡ s) ⊎ (l.shelf ≡ s → ⊥) → has_key s r l ≡ false
-    by (inl e) = and_right (eqb l.shelf s) (is_equal (row_order l.row r)) (row e (row_order l.row r) refl)
-    by (inr e) = and_left (eqb l.shelf s) (is_equal (row_order l.row r)) (ne_eqb l.shelf s e)
+    by (inl e) = and_right (eqb l.shelf s) (is_eq (row_order l.row r)) (row e (row_order l.row r) refl)
+    by (inr e) = and_left (eqb l.shelf s) (is_eq (row_order l.row r)) (ne_eqb l.shelf s e)
 
 pub place_none : (s : ℕ) (r : Row) (ls : Stored) → Absent s r ls → place_of s r ls ≡ None
 unfolding place_of
@@ -185,49 +186,46 @@ worth_none t q s r = by (eqb s t)
 held_after : (c : ℕ) (ls ks : Stored) (s : ℕ) (r : Row) (z : ℤ) → s ≤ 15 → ((t : ℕ) (q : Row) → tally t q ks ≡ tally t q ls +ℤ worth t q s r z) → with_copies (holding_of c ls) s r z ≡ holding_of c ks
 held_after c ls ks s r z h m = ap {B = Holding} (λ x. record { capacity = c; shelves = x }) (sym (shelves_moved ls ks s r z h m))
 
-module _ (c : ℕ) (s : ℕ) (r : Row) (n : ℕ) (ls : Stored) where
-  pub record PutMakes (ks : Stored) (x : Result (Unit {0}) Refusal) : Type 0 where
-    pub answer : put_answer (holding_of c ls) s r n ≡ x
-    pub lines : lines_after_put c s r n ls ≡ ks
-    pub after : after_put (holding_of c ls) s r n ≡ holding_of c ks
-    pub kept : Kept c ks
+-- a call answers x and leaves the lines ks, where it is to answer a, to leave the lines `made`, and to mean `holding` then
+pub record Makes (c : ℕ) (a : Result (Unit {0}) Refusal) (holding : Holding) (made ks : Stored) (x : Result (Unit {0}) Refusal) : Type 0 where
+  pub answer : a ≡ x
+  pub lines : made ≡ ks
+  pub after : holding ≡ holding_of c ks
+  pub kept : Kept c ks
 
-  pub record TakeMakes (ks : Stored) (x : Result (Unit {0}) Refusal) : Type 0 where
-    pub answer : take_answer (holding_of c ls) s r n ≡ x
-    pub lines : lines_after_take c s r n ls ≡ ks
-    pub after : after_take (holding_of c ls) s r n ≡ holding_of c ks
-    pub kept : Kept c ks
+abbrev pub PutMakes : ℕ → ℕ → Row → ℕ → Stored → Stored → Result (Unit {0}) Refusal → Type 0
+PutMakes c s r n ls = Makes c (put_answer (holding_of c ls) s r n) (after_put (holding_of c ls) s r n) (lines_after_put c s r n ls)
+
+abbrev pub TakeMakes : ℕ → ℕ → Row → ℕ → Stored → Stored → Result (Unit {0}) Refusal → Type 0
+TakeMakes c s r n ls = Makes c (take_answer (holding_of c ls) s r n) (after_take (holding_of c ls) s r n) (lines_after_take c s r n ls)
 
 module _ (c : ℕ) (s : ℕ) (r : Row) (n : ℕ) (ls : Stored) (h : Kept c ls) where
+  -- a call that answers a, and makes `made` of the lines by adding z copies where that is Ok
+  module _ (a : Result (Unit {0}) Refusal) (z : ℤ) (made : Stored) where
+    refused : (e : Refusal) → a ≡ Err e → Makes c a (left_by a (holding_of c ls) (with_copies (holding_of c ls) s r z)) (left_by a ls made) ls (Err e)
+    refused e q = record { answer = q; lines = ap (λ x. left_by x ls made) q; after = ap (λ x. left_by x (holding_of c ls) (with_copies (holding_of c ls) s r z)) q; kept = h }
+
+    accepted : (ks : Stored) → s ≤ 15 → a ≡ Ok tt → made ≡ ks → ((t : ℕ) (q : Row) → tally t q ks ≡ tally t q ls +ℤ worth t q s r z) → Kept c ks →
+        Makes c a (left_by a (holding_of c ls) (with_copies (holding_of c ls) s r z)) (left_by a ls made) ks (Ok tt)
+    accepted ks small q f m k =
+        record {
+          answer = q;
+          lines = ap (λ x. left_by x ls made) q ∙ f;
+          after = ap (λ x. left_by x (holding_of c ls) (with_copies (holding_of c ls) s r z)) q ∙ held_after c ls ks s r z small m;
+          kept = k;
+        }
+
   put_refused : (e : Refusal) → put_answer (holding_of c ls) s r n ≡ Err e → PutMakes c s r n ls ls (Err e)
-  put_refused e q = record { answer = q; lines = ap (λ x. left_by x ls (added_at (place_of s r ls) s r n ls)) q; after = ap (λ x. left_by x (holding_of c ls) (with_copies (holding_of c ls) s r (pos n))) q; kept = h }
+  put_refused = refused (put_answer (holding_of c ls) s r n) (pos n) (added s r n ls)
 
   take_refused : (e : Refusal) → take_answer (holding_of c ls) s r n ≡ Err e → TakeMakes c s r n ls ls (Err e)
-  take_refused e q = record { answer = q; lines = ap (λ x. left_by x ls (removed_at (place_of s r ls) s r n ls)) q; after = ap (λ x. left_by x (holding_of c ls) (with_copies (holding_of c ls) s r (neg_ℤ (pos n)))) q; kept = h }
+  take_refused = refused (take_answer (holding_of c ls) s r n) (neg_ℤ (pos n)) (removed s r n ls)
 
   put_accepted : (place : Option ℕ) (ks : Stored) → s ≤ 15 → put_answer (holding_of c ls) s r n ≡ Ok tt → place_of s r ls ≡ place → added_at place s r n ls ≡ ks → ((t : ℕ) (q : Row) → tally t q ks ≡ tally t q ls +ℤ worth t q s r (pos n)) → Kept c ks → PutMakes c s r n ls ks (Ok tt)
-  put_accepted place ks small q e f m k =
-      record {
-        answer = q;
-        lines = ap (λ x. left_by x ls (added_at (place_of s r ls) s r n ls)) q ∙ ap (λ x. added_at x s r n ls) e ∙ f;
-        after = ap (λ x. left_by x (holding_of c ls) (with_copies (holding_of c ls) s r (pos n))) q ∙ held_after c ls ks s r (pos n) small m;
-        kept = k;
-      }
+  put_accepted place ks small q e f = accepted (put_answer (holding_of c ls) s r n) (pos n) (added s r n ls) ks small q (ap (λ x. added_at x s r n ls) e ∙ f)
 
   take_accepted : (place : Option ℕ) (ks : Stored) → s ≤ 15 → take_answer (holding_of c ls) s r n ≡ Ok tt → place_of s r ls ≡ place → removed_at place s r n ls ≡ ks → ((t : ℕ) (q : Row) → tally t q ks ≡ tally t q ls +ℤ worth t q s r (neg_ℤ (pos n))) → Kept c ks → TakeMakes c s r n ls ks (Ok tt)
-  take_accepted place ks small q e f m k =
-      record {
-        answer = q;
-        lines = ap (λ x. left_by x ls (removed_at (place_of s r ls) s r n ls)) q ∙ ap (λ x. removed_at x s r n ls) e ∙ f;
-        after = ap (λ x. left_by x (holding_of c ls) (with_copies (holding_of c ls) s r (neg_ℤ (pos n)))) q ∙ held_after c ls ks s r (neg_ℤ (pos n)) small m;
-        kept = k;
-      }
-
-  pub put_node : 15 < s → PutMakes c s r n ls ls (Err (refusal 14 s))
-  put_node g = put_refused (refusal 14 s) (cond-true (ltb 15 s) _ _ (lt-ltb 15 s g))
-
-  pub take_node : 15 < s → TakeMakes c s r n ls ls (Err (refusal 14 s))
-  take_node g = take_refused (refusal 14 s) (cond-true (ltb 15 s) _ _ (lt-ltb 15 s g))
+  take_accepted place ks small q e f = accepted (take_answer (holding_of c ls) s r n) (neg_ℤ (pos n)) (removed s r n ls) ks small q (ap (λ x. removed_at x s r n ls) e ∙ f)
 
   module _ (small : s ≤ 15) where
     over : 65535 < copies (holding_of c ls) s r + n → put_answer (holding_of c ls) s r n ≡ Err (refusal 6 s)

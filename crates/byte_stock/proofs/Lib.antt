@@ -1,10 +1,11 @@
 pub mod ByteLaid
 pub mod ByteJoins
 pub mod ByteCodec
+pub mod ByteChunks
+pub mod BytePasses
 pub mod ByteWrites
-pub mod ByteTally
-pub mod ByteLawful
 pub mod ByteSteps
 pub mod ByteKept
-pub mod ByteBest
+pub mod ByteNext
 pub mod ByteCalls
+pub mod StockLeft

@@ -5,10 +5,12 @@
 --     layout ls                   lines as bytes, one behind the other
 --     padded n ls                 the same, followed by 00 up to n bytes
 --     row_at b p, line_at b i     the row from place p on; the line at place i among the lines
+--     line_in b                   the line that the bytes b begin with
 --     stored_in n b               the first n lines
+--     capacity_in n               how many lines fit into n bytes: whole lines of 35 bytes, at most 4,096
 --     laid b at xs                b with the bytes xs from place `at` on, and all else as it was
 --     freed_bytes b i used        line i overwritten by the last of the used lines, and the place of that line blank
-use Rattle.std.specs.Prelude.{ℕ, ◌+◌, ◌-◌, ◌*◌, List, [], ◌∷◌, ◌++◌, map, length, take, drop, replicate, ℤ, slice_index}
+use Rattle.std.specs.Prelude.{ℕ, ◌+◌, ◌-◌, ◌*◌, ◌/◌, min, List, [], ◌∷◌, ◌++◌, map, length, take, drop, replicate, ℤ, slice_index}
 use Rattle.std.proofs.Common.{to_z}
 use Rattle.std.specs.Int.{w32}
 use Rattle.std.specs.List.{flat_map, range_with_len}
@@ -39,8 +41,14 @@ row_at b p =
 unfoldable pub line_at : List ℕ → ℕ → StockLine
 line_at b i = record { shelf = slice_index b (35 * i); row = row_at b (35 * i + 1); count = two_at b (35 * i + 33) }
 
+abbrev pub line_in : List ℕ → StockLine
+line_in b = line_at b 0
+
 abbrev pub stored_in : ℕ → List ℕ → List StockLine
 stored_in n b = map (line_at b) (range_with_len 0 n)
+
+abbrev pub capacity_in : ℕ → ℕ
+capacity_in n = min (n / 35) 4096
 
 unfoldable pub laid : List ℕ → ℕ → List ℕ → List ℕ
 laid b at xs = take at b ++ (xs ++ drop (at + length xs) b)

@@ -1,78 +1,56 @@
--- What a stock in lent bytes means, what stands in its bytes, and what its calls keep and leave. Assumes nothing.
---     capacity_in n          how many lines fit into n bytes: whole lines of 35 bytes, at most 4,096
---     held_in b len          what bytes with `len` lines mean
---     SoundLines b len       the bytes are the layout of lawful lines, which are apart and fit, followed by 00 only
---     answer_in r, length_by r len      what is answered where a call also tells how many lines there are then; and that number
---     stored, held, SoundBytes, lent_bytes      the same of a stock, and the name of its memory
---     SameMemory old new     the stock stands over the memory that it stood over, as long as it was
---     PutLeft, TakeLeft      all that a put and a take leave in memory, and what they answer
---     PutLeaves, TakeLeaves  the same of stocks
-use Rattle.std.specs.Prelude.{◌≡◌, ℕ, ◌/◌, ◌≤◌, min, List, length, Ok, Err, Result}
-use Rattle.std.specs.List.{AllByRecursion}
+-- What a stock in lent bytes means, what stands in its bytes, and what its calls leave. Assumes nothing.
+--     stored, held, lent_bytes      the lines of a stock, what it means, and the name of its memory
+--     lawful_held                   every stock means a lawful holding
+--     SameMemory old new            the stock stands over the memory that it stood over, as long as it was
+--     PutLeaves, TakeLeaves         all that a put and a take leave in memory, and what they answer
+--     PutLeavesAt, TakeLeavesAt     the same where a line of the row is there
+use Rattle.std.specs.Prelude.{◌≡◌, ℕ, length, Result}
+use Rattle.std.proofs.Common.{arith}
+use Rattle.std.proofs.lemmas.List.FromFn.{length-map-range_with_len}
 use Rattle.bag.specs.Order.{Row}
 use Rattle.stock.specs.declared.fault.StockFault.{StockFault}
 use Rattle.byte_stock.specs.declared.bytes.ByteStock.{ByteStock}
 use Rattle.stock.specs.Refusal.{told}
 use Rattle.stock.specs.Holding.{Holding, LawfulHolding, put_answer, after_put, take_answer, after_take}
-use Rattle.byte_stock.specs.ByteLines.{stored_in, padded}
-use Rattle.stock.specs.Holding.{LawfulLine}
-use Rattle.byte_stock.specs.ByteStored.{Stored, Apart, holding_of, lines_after_put, lines_after_take}
-
-abbrev pub capacity_in : ℕ → ℕ
-capacity_in n = min (n / 35) 4096
-
-abbrev pub held_in : List ℕ → ℕ → Holding
-held_in b len = holding_of (capacity_in (length b)) (stored_in len b)
-
-pub record SoundLines (b : List ℕ) (len : ℕ) : Type 0 where
-  pub room : len ≤ capacity_in (length b)
-  pub lawful : AllByRecursion LawfulLine (stored_in len b)
-  pub apart : Apart (stored_in len b)
-  pub whole : b ≡ padded (length b) (stored_in len b)
-  pub holding : LawfulHolding (held_in b len)
-
--- an answer with the number of lines that there are then
-abbrev pub answer_in : Result ℕ StockFault → Result (Unit {0}) StockFault
-answer_in (Ok after) = Ok tt
-answer_in (Err fault) = Err fault
-
-abbrev pub length_by : Result ℕ StockFault → ℕ → ℕ
-length_by (Ok after) len = after
-length_by (Err fault) len = len
+use Rattle.byte_stock.specs.ByteLines.{capacity_in, line_at, stored_in, padded}
+use Rattle.byte_stock.specs.ByteStored.{Stored, line_of, holding_of, lines_after_put, lines_after_take}
+use Rattle.byte_stock.specs.ByteLawful.{lawful_stored}
 
 abbrev pub stored : ByteStock → Stored
 stored stock = stored_in stock.len stock.bytes.now
 
 abbrev pub held : ByteStock → Holding
-held stock = held_in stock.bytes.now stock.len
+held stock = holding_of (capacity_in (length stock.bytes.now)) (stored stock)
 
-abbrev pub SoundBytes : ByteStock → Type 0
-SoundBytes stock = SoundLines stock.bytes.now stock.len
+pub lawful_held : (stock : ByteStock) → LawfulHolding (held stock)
+lawful_held stock =
+    let n = length-map-range_with_len (line_at stock.bytes.now) 0 stock.len in
+    let m = stock.room in
+    lawful_stored (capacity_in (length stock.bytes.now)) (stored stock) stock.lawful stock.apart (omega arith) (omega arith)
 
 abbrev pub lent_bytes : ByteStock → ℕ
 lent_bytes stock = stock.bytes.ghost_name
-
--- the bytes are as long as they were, and hold exactly the lines that the call makes of those before, and 00 behind them
-pub record PutLeft (b : List ℕ) (len : ℕ) (s : ℕ) (r : Row) (n : ℕ) (answered : Result (Unit {0}) StockFault) (bytes_after : List ℕ) (len_after : ℕ) : Type 0 where
-  pub answer : told answered ≡ put_answer (held_in b len) s r n
-  pub after : held_in bytes_after len_after ≡ after_put (held_in b len) s r n
-  pub lines : stored_in len_after bytes_after ≡ lines_after_put (capacity_in (length b)) s r n (stored_in len b)
-  pub bytes : bytes_after ≡ padded (length b) (lines_after_put (capacity_in (length b)) s r n (stored_in len b))
-  pub sound : SoundLines bytes_after len_after
-
-pub record TakeLeft (b : List ℕ) (len : ℕ) (s : ℕ) (r : Row) (n : ℕ) (answered : Result (Unit {0}) StockFault) (bytes_after : List ℕ) (len_after : ℕ) : Type 0 where
-  pub answer : told answered ≡ take_answer (held_in b len) s r n
-  pub after : held_in bytes_after len_after ≡ after_take (held_in b len) s r n
-  pub lines : stored_in len_after bytes_after ≡ lines_after_take (capacity_in (length b)) s r n (stored_in len b)
-  pub bytes : bytes_after ≡ padded (length b) (lines_after_take (capacity_in (length b)) s r n (stored_in len b))
-  pub sound : SoundLines bytes_after len_after
 
 pub record SameMemory (old new : ByteStock) : Type 0 where
   pub lender : lent_bytes new ≡ lent_bytes old
   pub long : length new.bytes.now ≡ length old.bytes.now
 
-abbrev pub PutLeaves : ByteStock → ℕ → Row → ℕ → Result (Unit {0}) StockFault → ByteStock → Type 0
-PutLeaves old s r n answered new = PutLeft old.bytes.now old.len s r n answered new.bytes.now new.len
+-- the bytes are as long as they were, and hold exactly the lines that the call makes of those before, and 00 behind them
+pub record PutLeaves (old : ByteStock) (s : ℕ) (r : Row) (n : ℕ) (answered : Result (Unit {0}) StockFault) (new : ByteStock) : Type 0 where
+  pub answer : told answered ≡ put_answer (held old) s r n
+  pub after : held new ≡ after_put (held old) s r n
+  pub lines : stored new ≡ lines_after_put (capacity_in (length old.bytes.now)) s r n (stored old)
+  pub bytes : new.bytes.now ≡ padded (length old.bytes.now) (lines_after_put (capacity_in (length old.bytes.now)) s r n (stored old))
 
-abbrev pub TakeLeaves : ByteStock → ℕ → Row → ℕ → Result (Unit {0}) StockFault → ByteStock → Type 0
-TakeLeaves old s r n answered new = TakeLeft old.bytes.now old.len s r n answered new.bytes.now new.len
+pub record TakeLeaves (old : ByteStock) (s : ℕ) (r : Row) (n : ℕ) (answered : Result (Unit {0}) StockFault) (new : ByteStock) : Type 0 where
+  pub answer : told answered ≡ take_answer (held old) s r n
+  pub after : held new ≡ after_take (held old) s r n
+  pub lines : stored new ≡ lines_after_take (capacity_in (length old.bytes.now)) s r n (stored old)
+  pub bytes : new.bytes.now ≡ padded (length old.bytes.now) (lines_after_take (capacity_in (length old.bytes.now)) s r n (stored old))
+
+-- the same of the row of line i, on its shelf
+abbrev pub PutLeavesAt : ByteStock → ℕ → ℕ → Result (Unit {0}) StockFault → ByteStock → Type 0
+PutLeavesAt old i n answered new = PutLeaves old (line_of (stored old) i).shelf (line_of (stored old) i).row n answered new
+
+abbrev pub TakeLeavesAt : ByteStock → ℕ → ℕ → Result (Unit {0}) StockFault → ByteStock → Type 0
+TakeLeavesAt old i n answered new = TakeLeaves old (line_of (stored old) i).shelf (line_of (stored old) i).row n answered new

@@ -6,15 +6,16 @@
 --     has_key s r l                  the line is of row r on shelf s
 --     comes_after s r l              the line is on shelf s, and its row is greater than r
 --     place_of s r ls                the place of the line of row r on shelf s
+--     nearer k l                     of two lines, the one with the smaller row
+--     line_after s r ls              of the lines on shelf s with a row greater than r, the one with the smallest
 --     added s r n ls                 n copies more: in the line that there is, or in a new line behind the last
 --     freed i ls                     line i is gone, and the last line stands in its place
 --     removed s r n ls               n copies less; a line without copies is freed
 --     lines_after_put, lines_after_take      what a put and a take leave, refused ones too
-use Rattle.std.specs.Prelude.{◌≡◌, ℕ, suc, ◌+◌, ◌-◌, ◌<◌, Bool, true, false, cond, ◌&&◌, List, [], ◌∷◌, ◌++◌, map, length, take, ℤ, pos, Some, None, Option, ◌==◌, slice_index_or, slice_set}
-use Rattle.std.specs.declared.cmp.Ordering.TheVariants.{Less, Equal, Greater}
-use Rattle.std.specs.declared.cmp.Ordering.{Ordering}
-use Rattle.std.specs.List.{range_with_len, flat_map}
+use Rattle.std.specs.Prelude.{◌≡◌, ℕ, suc, ◌+◌, ◌-◌, ◌<◌, Bool, cond, ◌&&◌, List, [], ◌∷◌, ◌++◌, map, length, take, ℤ, pos, Some, None, Option, ◌==◌, slice_index_or, slice_set}
+use Rattle.std.specs.List.{range_with_len, flat_map, filter, reduce}
 use Rattle.std.specs.Option.{option_map}
+use Rattle.std.specs.Ordering.{is_eq, is_lt, min_by_ordering}
 use Rattle.bag.specs.Order.{Row, row_order}
 use Rattle.bag.specs.Bag.{Lines, collect}
 use Rattle.bag.specs.Lines.{blank_stock_line}
@@ -47,25 +48,22 @@ shelves_of ls = map (λ t. bag_on t ls) (range_with_len 0 16)
 abbrev pub holding_of : ℕ → Stored → Holding
 holding_of c ls = record { capacity = c; shelves = shelves_of ls }
 
-abbrev pub is_equal : Ordering → Bool
-is_equal Less = false
-is_equal Equal = true
-is_equal Greater = false
-
 abbrev pub has_key : ℕ → Row → StockLine → Bool
-has_key s r l = l.shelf == s && is_equal (row_order l.row r)
-
-abbrev pub is_less : Ordering → Bool
-is_less Less = true
-is_less Equal = false
-is_less Greater = false
+has_key s r l = l.shelf == s && is_eq (row_order l.row r)
 
 abbrev pub comes_after : ℕ → Row → StockLine → Bool
-comes_after s r l = l.shelf == s && is_less (row_order r l.row)
+comes_after s r l = l.shelf == s && is_lt (row_order r l.row)
 
 unfoldable pub place_of : ℕ → Row → Stored → Option ℕ
 place_of s r [] = None
 place_of s r (l ∷ ls) = cond (has_key s r l) (Some 0) (option_map suc (place_of s r ls))
+
+-- the first where the rows are the same
+abbrev pub nearer : StockLine → StockLine → StockLine
+nearer k l = min_by_ordering (row_order k.row l.row) k l
+
+abbrev pub line_after : ℕ → Row → Stored → Option StockLine
+line_after s r ls = reduce nearer (filter (comes_after s r) ls)
 
 abbrev pub new_line : ℕ → Row → ℕ → StockLine
 new_line s r n = record { shelf = s; row = r; count = n }

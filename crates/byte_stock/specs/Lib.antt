@@ -1,4 +1,5 @@
 pub mod ByteLines
 pub mod ByteStored
+pub mod ByteTally
+pub mod ByteLawful
 pub mod ByteStocks
-pub mod ByteSearch

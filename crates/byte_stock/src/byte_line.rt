@@ -1,97 +1,62 @@
-ghost use Rattle.std.specs.Prelude.{◌≡◌, ◌+◌, ◌*◌, ◌≤◌, length, replicate};
-ghost use Rattle.std.specs.List.{flat_map};
-ghost use Rattle.bag.specs.Bytes.{in_four, in_two};
-ghost use Rattle.byte_stock.specs.ByteLines.{four_at, two_at, row_at, line_at, line_bytes, laid};
+ghost use Rattle.std.specs.Prelude.{◌≡◌, ◌+◌, ◌*◌, ◌<◌, ◌≤◌, length};
+ghost use Rattle.byte_stock.specs.ByteLines.{line_in, line_bytes, laid, freed_bytes};
 
 use bag::lines::StockLine;
-use bag::row::Row;
+use std::array::from_fn;
 
-fn column_at(bytes: &[u8], at: usize) -> i32
-    requires { at + 4 ≤ length bytes.now }
-    ensures { result ≡ four_at bytes.now at }
-{
-    i32::from_be_bytes([bytes[at], bytes[at + 1], bytes[at + 2], bytes[at + 3]])
-}
+// How many bytes a line takes: one for its shelf, four for each of its eight columns, and two for its count.
+pub(crate) const LINE_LEN: usize = 35;
 
-fn row_at(bytes: &[u8], at: usize) -> Row
-    requires { at + 32 ≤ length bytes.now }
-    ensures { result ≡ row_at bytes.now at }
-{
-    let a = column_at(bytes, at);
-    let b = column_at(bytes, at + 4);
-    let c = column_at(bytes, at + 8);
-    let d = column_at(bytes, at + 12);
-    let e = column_at(bytes, at + 16);
-    let f = column_at(bytes, at + 20);
-    let g = column_at(bytes, at + 24);
-    let h = column_at(bytes, at + 28);
-    [a, b, c, d, e, f, g, h]
-}
+const COLUMN_LEN: usize = 4;
 
-fn count_at(bytes: &[u8], at: usize) -> u16
-    requires { at + 2 ≤ length bytes.now }
-    ensures { result ≡ two_at bytes.now at }
-{
-    u16::from_be_bytes([bytes[at], bytes[at + 1]])
-}
+const COLUMNS_AT: usize = 1;
 
-// The line at a place among the lines.
-pub(crate) fn line_at(bytes: &[u8], place: usize) -> StockLine
-    requires { 35 * place + 35 ≤ length bytes.now }
-    ensures { result ≡ line_at bytes.now place }
-{
-    let at = 35 * place;
-    let shelf = bytes[at];
-    let row = row_at(bytes, at + 1);
-    let count = count_at(bytes, at + 33);
-    StockLine { shelf, row, count }
-}
+const COUNT_AT: usize = 33;
 
-// Lays `part` into the bytes from `at` on, and answers the place behind it.
-fn put_bytes(bytes: &mut [u8], at: usize, part: &[u8]) -> usize
-    requires { at + length part.now ≤ length bytes.old }
-    ensures end { result ≡ at + length part.now }
-    ensures after { bytes.new ≡ laid bytes.old at part.now }
+// The line that the bytes hold.
+pub(crate) fn read_line(bytes: &[u8; LINE_LEN]) -> StockLine
+    ensures { result ≡ line_in bytes.now }
 {
-    let end = at + part.len();
-    bytes[at..end].copy_from_slice(part);
-    end
-}
-
-fn put_column(bytes: &mut [u8], at: usize, v: i32) -> usize
-    requires { at + 4 ≤ length bytes.old }
-    ensures end { result ≡ at + length (in_four v) }
-    ensures after { bytes.new ≡ laid bytes.old at (in_four v) }
-{
-    put_bytes(bytes, at, &v.to_be_bytes())
-}
-
-fn put_columns(bytes: &mut [u8], at: usize, row: &Row) -> usize
-    requires { at + 32 ≤ length bytes.old }
-    ensures end { result ≡ at + length (flat_map in_four row.now) }
-    ensures after { bytes.new ≡ laid bytes.old at (flat_map in_four row.now) }
-{
-    let mut place = at;
-    for k in 0..8 {
-        place = put_column(bytes, place, row[k]);
+    let (columns, count) = bytes[COLUMNS_AT..].as_chunks::<COLUMN_LEN>();
+    let row = from_fn(|k| i32::from_be_bytes(columns[k]));
+    StockLine {
+        shelf: bytes[0],
+        row,
+        count: u16::from_be_bytes([count[0], count[1]]),
     }
-    place
 }
 
-// Writes a line at a place among the lines.
-pub(crate) fn write_line(bytes: &mut [u8], place: usize, line: &StockLine)
-    requires { 35 * place + 35 ≤ length bytes.old }
-    ensures { bytes.new ≡ laid bytes.old (35 * place) (line_bytes line.now) }
+// A line as bytes.
+pub(crate) fn line_bytes(line: &StockLine) -> [u8; LINE_LEN]
+    ensures { result ≡ line_bytes line.now }
 {
-    let columns = put_bytes(bytes, 35 * place, &[line.shelf]);
-    let count = put_columns(bytes, columns, &line.row);
-    put_bytes(bytes, count, &line.count.to_be_bytes());
+    let mut bytes = [0; LINE_LEN];
+    bytes[0] = line.shelf;
+    // by places: `as_chunks_mut` does not promise what the slice ends as
+    for (k, column) in line.row.iter().enumerate() {
+        let at = COLUMNS_AT + COLUMN_LEN * k;
+        bytes[at..at + COLUMN_LEN].copy_from_slice(&column.to_be_bytes());
+    }
+    bytes[COUNT_AT..].copy_from_slice(&line.count.to_be_bytes());
+    bytes
 }
 
-// Blanks a place among the lines.
-pub(crate) fn blank_line(bytes: &mut [u8], place: usize)
+// Writes the bytes of one line at a place among the lines.
+pub(crate) fn write_line(bytes: &mut [u8], place: usize, line: &[u8; LINE_LEN])
     requires { 35 * place + 35 ≤ length bytes.old }
-    ensures { bytes.new ≡ laid bytes.old (35 * place) (replicate 35 0) }
+    ensures { bytes.new ≡ laid bytes.old (35 * place) line.now }
 {
-    put_bytes(bytes, 35 * place, &[0; 35]);
+    let at = LINE_LEN * place;
+    bytes[at..at + LINE_LEN].copy_from_slice(line);
+}
+
+// Puts the last of `used` lines in the place of the line at `place`, and blanks the bytes that the last line leaves.
+pub(crate) fn free_line(bytes: &mut [u8], place: usize, used: usize)
+    requires { (place < used) × (35 * used ≤ length bytes.old) }
+    ensures { bytes.new ≡ freed_bytes bytes.old place used }
+{
+    let (lines, _) = bytes.as_chunks::<LINE_LEN>();
+    let last = read_line(&lines[used - 1]);
+    write_line(bytes, place, &line_bytes(&last));
+    write_line(bytes, used - 1, &[0; LINE_LEN]);
 }

@@ -1,80 +1,40 @@
-ghost use Rattle.std.specs.Prelude.{◌≡◌, ◌+◌, ◌*◌, ◌<◌, ◌≤◌, length, MatchOption};
-ghost use Rattle.byte_stock.specs.ByteStored.{has_key, comes_after};
-ghost use Rattle.byte_stock.specs.ByteSearch.{Nowhere, AtPlace, Best, better};
+ghost use Rattle.std.specs.Prelude.{◌≡◌, ◌<◌, length, map, IfSome};
+ghost use Rattle.byte_stock.specs.ByteLines.{line_in};
+ghost use Rattle.byte_stock.specs.ByteStored.{has_key, comes_after, place_of, line_after};
 
-use crate::byte_line::line_at;
+use crate::byte_line::{LINE_LEN, read_line};
 use bag::lines::StockLine;
 use bag::row::{Row, compare_rows};
-use std::cmp::Ordering;
 
 fn has_key(line: &StockLine, shelf: u8, row: &Row) -> bool
     ensures { result ≡ has_key shelf row.now line.now }
 {
-    if line.shelf != shelf {
-        return false;
-    }
-    match compare_rows(&line.row, row) {
-        Ordering::Less => false,
-        Ordering::Equal => true,
-        Ordering::Greater => false,
-    }
-}
-
-// The place of the line of a row on a shelf among the first `len` lines.
-pub(crate) fn find(bytes: &[u8], len: usize, shelf: u8, row: &Row) -> Option<usize>
-    requires { 35 * len ≤ length bytes.now }
-    ensures { MatchOption result (Nowhere bytes.now len shelf row.now) (AtPlace bytes.now len shelf row.now) }
-{
-    for i in 0..len {
-        let line = line_at(bytes, i);
-        if has_key(&line, shelf, row) {
-            return Some(i);
-        }
-    }
-    None
+    line.shelf == shelf && line.row == *row
 }
 
 fn comes_after(line: &StockLine, shelf: u8, row: &Row) -> bool
     ensures { result ≡ comes_after shelf row.now line.now }
 {
-    if line.shelf != shelf {
-        return false;
-    }
-    match compare_rows(row, &line.row) {
-        Ordering::Less => true,
-        Ordering::Equal => false,
-        Ordering::Greater => false,
-    }
+    line.shelf == shelf && compare_rows(row, &line.row).is_lt()
 }
 
-// The place of the better of two lines: the best so far, of which `len` says that there is none, and the one at `place`.
-fn better(bytes: &[u8], len: usize, shelf: u8, row: &Row, best: usize, place: usize) -> usize
-    requires { (35 * len ≤ length bytes.now) × ((best ≤ len) × (place < len)) }
-    ensures { result ≡ better bytes.now len shelf row.now best place }
+// The place of the line of a row on a shelf.
+pub(crate) fn find(lines: &[[u8; LINE_LEN]], shelf: u8, row: &Row) -> Option<usize>
+    ensures place { result ≡ place_of shelf row.now (map line_in lines.now) }
+    ensures inside { IfSome result (λ i. i < length lines.now) }
 {
-    let line = line_at(bytes, place);
-    if !comes_after(&line, shelf, row) {
-        return best;
-    }
-    if best == len {
-        return place;
-    }
-    let least = line_at(bytes, best);
-    match compare_rows(&line.row, &least.row) {
-        Ordering::Less => place,
-        Ordering::Equal => best,
-        Ordering::Greater => best,
-    }
+    lines
+        .iter()
+        .position(|line| has_key(&read_line(line), shelf, row))
 }
 
-// The place of the line with the smallest row greater than `row` on a shelf among the first `len` lines, or `len`.
-pub(crate) fn find_next(bytes: &[u8], len: usize, shelf: u8, row: &Row) -> usize
-    requires { 35 * len ≤ length bytes.now }
-    ensures { Best bytes.now len shelf row.now len result }
+// The line with the smallest row greater than `row` on a shelf.
+pub(crate) fn find_next(lines: &[[u8; LINE_LEN]], shelf: u8, row: &Row) -> Option<StockLine>
+    ensures { result ≡ line_after shelf row.now (map line_in lines.now) }
 {
-    let mut best = len;
-    for i in 0..len {
-        best = better(bytes, len, shelf, row, best, i);
-    }
-    best
+    lines
+        .iter()
+        .map(|line| read_line(line))
+        .filter(|line| comes_after(line, shelf, row))
+        .min_by(|a, b| compare_rows(&a.row, &b.row))
 }

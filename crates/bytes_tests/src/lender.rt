@@ -1,7 +1,6 @@
 ghost use Rattle.std.specs.Prelude.{◌≡◌, [], length, replicate};
-ghost use Rattle.byte_stock.specs.ByteLines.{padded};
+ghost use Rattle.byte_stock.specs.ByteLines.{padded, capacity_in};
 ghost use Rattle.byte_stock.specs.ByteStored.{lines_after_put};
-ghost use Rattle.byte_stock.specs.ByteStocks.{capacity_in};
 
 use bag::row::Row;
 use byte_stock::bytes::ByteStock;

@@ -10,7 +10,7 @@ use Rattle.bag.specs.declared.lines.StockLine.{StockLine}
 use Rattle.bag.specs.Order.{stock_line_order}
 use Rattle.bag.specs.Bag.{Lines}
 use Rattle.stock.specs.Holding.{lines_on}
-use Rattle.ordered_stock.specs.Ordered.{as_line, on_shelf, shelves_from, lines_of_bag, laid_out}
+use Rattle.ordered_stock.specs.OnTable.{as_line, on_shelf, shelves_from, lines_of_bag, laid_out}
 use Rattle.ordered_stock.proofs.OnShelf.{none_on_shelf, shelves_ascend}
 
 -- all lines stand on the n shelves from s on

@@ -21,7 +21,7 @@ use Rattle.table.proofs.Located.{ascending_tail}
 use Rattle.table.proofs.Lookups.{none_behind}
 use Rattle.bag.specs.Columns.{IsRow}
 use Rattle.stock.specs.Holding.{LawfulLine}
-use Rattle.ordered_stock.specs.Ordered.{as_line, on_shelf}
+use Rattle.ordered_stock.specs.OnTable.{as_line, on_shelf}
 use Rattle.stock.proofs.Rows.{not_equal, some_not_zero}
 use Rattle.ordered_stock.proofs.KeyParts.{Says, key_says, same_shelf, same_key_means}
 

@@ -18,7 +18,7 @@ use Rattle.table.specs.Order.{Lawful, same_key}
 use Rattle.table.specs.Entries.{Ascending, has_key, entry_of}
 use Rattle.table.proofs.Lookups.{has_key_entry}
 use Rattle.stock.specs.Holding.{LawfulLine}
-use Rattle.ordered_stock.specs.Ordered.{on_shelf, shelves_from, shelves_of}
+use Rattle.ordered_stock.specs.OnTable.{on_shelf, shelves_from, shelves_of}
 use Rattle.ordered_stock.proofs.KeyParts.{other_shelf, other_row}
 use Rattle.stock.proofs.Rows.{not_equal, equal_by}
 use Rattle.ordered_stock.proofs.OnShelf.{found_count, count_on_shelf, bag_on_shelf}

@@ -1,12 +1,13 @@
 -- What a put and a take of the sum are answered, and how many lines they leave. Assumes nothing.
---     put_ok, put_full, take_ok      the answers
+--     put_ok, put_full, full_answer      the answers
 --     no_copies                      no copies change nothing
 --     some_gain, some_loss           a number of copies is a change
 --     accepts_gain, accepts_loss     a put or a take that is accepted leaves a lawful holding
 --     lines_more, lines_kept, lines_less, lines_left      the lines that it leaves
-use Rattle.std.proofs.Common.{◌≡◌, ℕ, zero, suc, ◌+◌, ◌-◌, ◌<◌, ◌≤◌, Bool, true, false, ◌&&◌, eqb, ltb, length, ℤ, pos, ◌+ℤ◌, neg_ℤ, Ok, Err, sym, refl, ap, ◌∙◌, subst, arith}
+use Rattle.std.proofs.Common.{w32, SFits, to_z, of_z, ◌-ℤ◌, rules, ◌≡◌, ℕ, zero, suc, ◌+◌, ◌-◌, ◌<◌, ◌≤◌, Bool, true, false, ◌&&◌, eqb, ltb, length, ℤ, pos, ◌+ℤ◌, neg_ℤ, Ok, Err, sym, refl, ap, ◌∙◌, subst, arith}
 use Rattle.std.proofs.lemmas.List.{length-set}
-use Rattle.std.proofs.lemmas.Int.{ints}
+use Rattle.std.proofs.lemmas.Int.{ints, to_z-of_z}
+use Rattle.std.proofs.Math.Facts.{to_z_pos}
 use Rattle.std.proofs.lemmas.Bool.{le-ltb, lt-ltb, eq-eqb, ne_eqb}
 use Rattle.bag.specs.Order.{Row, row_order}
 use Rattle.bag.specs.Bag.{is_zero, count, add_copies}
@@ -14,11 +15,11 @@ use Rattle.bag.specs.Propagation.{one_if}
 use Rattle.bag.specs.Integers.{if_equal_zero}
 use Rattle.bag.specs.Refusal.{refusal}
 use Rattle.bag.specs.Columns.{IsRow}
-use Rattle.stock.specs.Holding.{Holding, LawfulHolding, shelf_of, copies, lines_of, with_copies, lacks_room, put_answer, take_answer}
-use Rattle.pending_lines.specs.PendingLines.{key}
-use Rattle.pending_book.specs.PendingBook.{Accepts}
-use Rattle.pending_book.proofs.PendingSum.{same_holding, count_with_copies, canonical_with_copies, copies_are, canonical_of}
-use Rattle.pending_book.proofs.PendingLawful.{lines_with_copies}
+use Rattle.stock.specs.Holding.{Holding, LawfulHolding, shelf_of, copies, lines_of, with_copies, lacks_room, put_answer}
+use Rattle.settling.specs.Keys.{key}
+use Rattle.pending_book.specs.Sums.{Accepts, gain_of, loss_of}
+use Rattle.settling.proofs.HoldingCounts.{same_holding, count_with_copies, canonical_with_copies, copies_are, canonical_of}
+use Rattle.settling.proofs.HoldingLines.{lines_with_copies}
 
 module _ (h : Holding) (s : ℕ) (r : Row) (n : ℕ) where
   pub put_ok : s ≤ 15 → copies h s r + n ≤ 65535 → lacks_room h s r n ≡ false → put_answer h s r n ≡ Ok tt
@@ -27,8 +28,8 @@ module _ (h : Holding) (s : ℕ) (r : Row) (n : ℕ) where
   pub put_full : s ≤ 15 → copies h s r + n ≤ 65535 → lacks_room h s r n ≡ true → put_answer h s r n ≡ Err (refusal 9 h.capacity)
   put_full l m room = rw (le-ltb 15 s l, le-ltb 65535 (copies h s r + n) m, room)
 
-  pub take_ok : s ≤ 15 → n ≤ copies h s r → take_answer h s r n ≡ Ok tt
-  take_ok l m = rw (le-ltb 15 s l, le-ltb (copies h s r) n m)
+  pub full_answer : (capacity : ℕ) → s ≤ 15 → copies h s r + n ≤ 65535 → lacks_room h s r n ≡ true → capacity ≡ h.capacity → Err (refusal 9 capacity) ≡ put_answer h s r n
+  full_answer capacity l m room same = ap (λ c. Err (refusal 9 c)) same ∙ sym (put_full l m room)
 
   pub room_present : 0 < copies h s r → lacks_room h s r n ≡ false
   room_present l = rw (ne_eqb (copies h s r) 0 (λ e. omega (arith, e))) (and_false (ltb 0 n))
@@ -113,13 +114,22 @@ module _ (h : Holding) (s : ℕ) (r : Row) (n : ℕ) (l : LawfulHolding h) (low 
       let b = one_none (count (shelf_of h s) r +ℤ neg_ℤ (pos n)) (omega (arith, ints, are, c)) in
       omega (arith, g, a, b)
 
-  pub accepts_gain : IsRow r → copies h s r + n ≤ 65535 → lines_of (with_copies h s r (pos n)) ≤ h.capacity → Accepts h (record { shelf = s; row = r; change = pos n })
+  pub accepts_gain : IsRow r → copies h s r + n ≤ 65535 → lines_of (with_copies h s r (pos n)) ≤ h.capacity → Accepts h (gain_of s r n)
   accepts_gain row m room =
       let are = copies_are h l s r in
       record { some = some_gain n some; shelf = low; row = row; counts = (omega (arith, ints, are), omega (arith, ints, are)); room = room }
 
-  pub accepts_loss : IsRow r → n ≤ copies h s r → lines_of (with_copies h s r (neg_ℤ (pos n))) ≤ h.capacity → Accepts h (record { shelf = s; row = r; change = neg_ℤ (pos n) })
+  pub accepts_loss : IsRow r → n ≤ copies h s r → lines_of (with_copies h s r (neg_ℤ (pos n))) ≤ h.capacity → Accepts h (loss_of s r n)
   accepts_loss row m room =
       let are = copies_are h l s r in
       let most = l.counts s r in
       record { some = some_loss n some; shelf = low; row = row; counts = (omega (arith, ints, are), omega (arith, ints, are)); room = room }
+
+-- the changes, as the signed numbers that they are made of
+pub gain_number : (n : ℕ) → n < 65536 → to_z w32 n ≡ pos n
+gain_number n m = to_z_pos w32 {n = n} (omega (arith, m))
+
+pub loss_number : (n : ℕ) → n < 65536 → to_z w32 (of_z w32 (pos 0 -ℤ to_z w32 n)) ≡ neg_ℤ (pos n)
+loss_number n m =
+    let f : SFits w32 (neg_ℤ (pos n)) = search (rules, m) in
+    ap (λ z. to_z w32 (of_z w32 z)) (let e = gain_number n m in let q : pos 0 -ℤ to_z w32 n ≡ neg_ℤ (pos n) = omega (arith, ints, e) in q) ∙ to_z-of_z w32 (neg_ℤ (pos n)) f

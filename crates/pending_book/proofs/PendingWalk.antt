@@ -15,7 +15,7 @@ use Rattle.bag.specs.RowOrder.{order_equal, order_itself, order_transitive, grea
 use Rattle.bag.proofs.CanonicalForm.{count_before}
 use Rattle.bag.proofs.NextRow.{next_is_after, one_answer, next_found, next_none}
 use Rattle.stock.specs.Holding.{row_and_count}
-use Rattle.pending_lines.specs.PendingLines.{IsNext}
+use Rattle.pending_lines.specs.ChangeLists.{IsNext}
 use Rattle.pending_book.specs.PendingNext.{earlier_of, IsCandidate}
 
 pub after_is_next : (xs : Lines) (r : Row) (o : Option Line) → RowAfter xs r o → IsNext (λ q. count xs q) r o
@@ -75,9 +75,6 @@ rows_after_short (e ∷ ys) b = by (row_order b e.0) (rows_after_short ys b)
     by Less h = omega arith
     by Equal h = omega arith
     by Greater h = omega arith
-
-pub walk_start : (ys : Lines) (b : Row) → length (rows_after ys b) ≤ length ys
-walk_start = rows_after_short
 
 pub walk_shorter : (ys : Lines) (a b : Row) → Canonical ys → row_order a b ≡ Less → (count ys b ≡ pos 0 → ⊥) → suc (length (rows_after ys b)) ≤ length (rows_after ys a)
 unfolding rows_after count

@@ -1,3 +1,3 @@
+pub mod Sums
 pub mod PendingBook
-pub mod Settling
 pub mod PendingNext

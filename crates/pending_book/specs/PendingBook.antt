@@ -1,106 +1,54 @@
--- What a pending book means: the stock below with the pending changes added. Assumes nothing.
---     sum_of h ps              the holding h with the changes of the lines ps
---     with_change_of h p       the holding h with the change of one line
---     Accepts h p              the change of p leaves a lawful holding
---     LowKey k                 the key's shelf is one of 0 to 15
---     meaning_of stock b       what the book b over a stock means
---     SoundBook stock b        what a book keeps between its calls
---     gain_of, loss_of s r n   what putting and what taking n copies of the row r on shelf s changes
---     Netted stock b p c       c has the stock below as b has it, and the line p netted into the pending lines; a line netted to 0 is gone
---     SettledFirst stock b p c      the stock below c means all that b means, and p alone is pending
---     BelowAfter stock b answer p c      what becomes of the stock below and of the pending lines where a call that changes the line p
+-- What a pending book means, and what becomes of the stock below and of the pending lines. Assumes nothing.
+--     meaning_of b             what the book b means: the stock below with the pending changes added
+--     Netted b p c             c has the stock below as b has it, and the line p netted into the pending lines; a line netted to 0 is gone
+--     SettledFirst b p c       the stock below c means all that b means, and p alone is pending
+--     BelowAfter b answer p c      what becomes of the stock below and of the pending lines where a call that changes the line p
 --                              is answered so: `refused` and `idle` calls leave the book whole as it was, `netted` if the line has a
 --                              place among 64, else `settled`
 -- and of how a book works:
---     Settled stock b c        c means what b does, and nothing is pending
---     Placed stock b p c       c means what b does, and has a place for the line p
---     Noted stock b p c        c means what b does with the change of p
---     SettledBelow stock b c   the stock below c alone means what b does, too, and nothing is pending
---     PlacedBelow stock b p c  c is b itself where that has a place for the line p, else settled
---     NotedBelow stock b p c   the change of p was netted in, or settled first
-use Rattle.std.specs.Prelude.{◌≡◌, ℕ, ◌≤◌, true, false, List, [], ◌∷◌, pos, ◌+ℤ◌, neg_ℤ, ◌≤ℤ◌, Ok, Err, Result}
-use Rattle.bag.specs.Order.{Row}
-use Rattle.bag.specs.Bag.{is_zero, count, EachRow}
-use Rattle.stock.specs.declared.stock.Stock.{Ghosts}
-use Rattle.pending_lines.specs.declared.pending_lines.PendingLine.{PendingLine}
-use Rattle.pending_book.specs.declared.pending.PendingBook.{PendingBook}
-use Rattle.bag.specs.Columns.{IsRow}
+--     Settled b c              the stock below c alone means what b does, and nothing is pending
+--     Placed b p c             c means what b does, and has a place for the line p; it is b itself where that has one, else settled
+--     Noted b p c              c means what b does with the change of p, which was netted in, or settled first
+use Rattle.std.specs.Prelude.{◌≡◌, true, false, [], ◌∷◌, pos, Ok, Err, Result}
+use Rattle.bag.specs.declared.lines.ChangeLine.{ChangeLine}
+use Rattle.bag.specs.Bag.{is_zero}
 use Rattle.bag.specs.Refusal.{Refusal}
-use Rattle.stock.specs.Holding.{Holding, LawfulHolding, shelf_of, lines_of, with_copies}
-use Rattle.pending_lines.specs.PendingLines.{key_of, keyed, held, changes, with_change, has_place, Ordered, IsCount}
+use Rattle.stock.specs.declared.stock.Stock.{Ghosts}
+use Rattle.stock.specs.Holding.{Holding}
+use Rattle.settling.specs.Keys.{key_of, keyed}
+use Rattle.pending_lines.specs.ChangeLists.{with_change, has_place}
+use Rattle.pending_lines.specs.PendingLines.{held, changes_of}
+use Rattle.pending_book.specs.Sums.{sum_of, with_change_of}
+use Rattle.pending_book.specs.declared.pending.PendingBook.{PendingBook}
 
-abbrev pub with_change_of : Holding → PendingLine → Holding
-with_change_of h p = with_copies h p.shelf p.row p.change
+abbrev pub meaning_of : {S : Type 0} {g : Ghosts S} → PendingBook S g → Holding
+meaning_of {S} {g} b = sum_of (g.meaning b.below) (held b.pending)
 
-unfoldable pub sum_of : Holding → List PendingLine → Holding
-sum_of h [] = h
-sum_of h (p ∷ ps) = with_change_of (sum_of h ps) p
+pub record Netted {S : Type 0} {g : Ghosts S} (b : PendingBook S g) (p : ChangeLine) (c : PendingBook S g) : Type 0 where
+  pub below : c.below ≡ b.below
+  pub pending : changes_of c.pending ≡ with_change p (changes_of b.pending)
 
-abbrev pub gain_of : ℕ → Row → ℕ → PendingLine
-gain_of s r n = record { shelf = s; row = r; change = pos n }
+pub record SettledFirst {S : Type 0} {g : Ghosts S} (b : PendingBook S g) (p : ChangeLine) (c : PendingBook S g) : Type 0 where
+  pub below : g.meaning c.below ≡ meaning_of b
+  pub pending : changes_of c.pending ≡ keyed p ∷ []
 
-abbrev pub loss_of : ℕ → Row → ℕ → PendingLine
-loss_of s r n = record { shelf = s; row = r; change = neg_ℤ (pos n) }
+pub record BelowAfter {S : Type 0} {g : Ghosts S} (b : PendingBook S g) (answer : Result (Unit {0}) Refusal) (p : ChangeLine) (c : PendingBook S g) : Type 0 where
+  pub refused : (e : Refusal) → answer ≡ Err e → c ≡ b
+  pub idle : p.change ≡ pos 0 → c ≡ b
+  pub netted : answer ≡ Ok tt → is_zero p.change ≡ false → has_place (changes_of b.pending) (key_of p) ≡ true → Netted b p c
+  pub settled : answer ≡ Ok tt → is_zero p.change ≡ false → has_place (changes_of b.pending) (key_of p) ≡ false → SettledFirst b p c
 
--- what a change must meet for a holding to stay lawful
-pub record Accepts (h : Holding) (p : PendingLine) : Type 0 where
-  pub some : is_zero p.change ≡ false
-  pub shelf : p.shelf ≤ 15
-  pub row : IsRow p.row
-  pub counts : IsCount (count (shelf_of h p.shelf) p.row +ℤ p.change)
-  pub room : lines_of (with_change_of h p) ≤ h.capacity
+pub record Settled {S : Type 0} {g : Ghosts S} (b c : PendingBook S g) : Type 0 where
+  pub below : g.meaning c.below ≡ meaning_of b
+  pub empty : held c.pending ≡ []
 
-abbrev pub LowKey : Row → Type 0
-LowKey [] = Unit {0}
-LowKey (c ∷ r) = c ≤ℤ pos 15
+pub record Placed {S : Type 0} {g : Ghosts S} (b : PendingBook S g) (p : ChangeLine) (c : PendingBook S g) : Type 0 where
+  pub same : meaning_of c ≡ meaning_of b
+  pub place : has_place (changes_of c.pending) (key_of p) ≡ true
+  pub kept : has_place (changes_of b.pending) (key_of p) ≡ true → c ≡ b
+  pub settled : has_place (changes_of b.pending) (key_of p) ≡ false → Settled b c
 
-module _ {S : Type 0} (stock : Ghosts S) where
-  abbrev pub meaning_of : PendingBook S → Holding
-  meaning_of b = sum_of (stock.meaning b.below) (held b.pending)
-
-  pub record SoundBook (b : PendingBook S) : Type 0 where
-    pub below : stock.sound b.below
-    pub ordered : Ordered b.pending
-    pub shelves : EachRow LowKey (changes b.pending)
-    pub lawful : LawfulHolding (meaning_of b)
-    pub counted : b.lines ≡ lines_of (meaning_of b)
-
-  pub record Netted (b : PendingBook S) (p : PendingLine) (c : PendingBook S) : Type 0 where
-    pub below : c.below ≡ b.below
-    pub pending : changes c.pending ≡ with_change p (changes b.pending)
-
-  pub record SettledFirst (b : PendingBook S) (p : PendingLine) (c : PendingBook S) : Type 0 where
-    pub below : stock.meaning c.below ≡ meaning_of b
-    pub pending : changes c.pending ≡ keyed p ∷ []
-
-  pub record BelowAfter (b : PendingBook S) (answer : Result (Unit {0}) Refusal) (p : PendingLine) (c : PendingBook S) : Type 0 where
-    pub refused : (e : Refusal) → answer ≡ Err e → c ≡ b
-    pub idle : p.change ≡ pos 0 → c ≡ b
-    pub netted : answer ≡ Ok tt → is_zero p.change ≡ false → has_place (changes b.pending) (key_of p) ≡ true → Netted b p c
-    pub settled : answer ≡ Ok tt → is_zero p.change ≡ false → has_place (changes b.pending) (key_of p) ≡ false → SettledFirst b p c
-
-  pub record Settled (b c : PendingBook S) : Type 0 where
-    pub sound : SoundBook c
-    pub same : meaning_of c ≡ meaning_of b
-    pub empty : held c.pending ≡ []
-
-  pub record Placed (b : PendingBook S) (p : PendingLine) (c : PendingBook S) : Type 0 where
-    pub sound : SoundBook c
-    pub same : meaning_of c ≡ meaning_of b
-    pub place : has_place (changes c.pending) (key_of p) ≡ true
-
-  pub record Noted (b : PendingBook S) (p : PendingLine) (c : PendingBook S) : Type 0 where
-    pub sound : SoundBook c
-    pub after : meaning_of c ≡ with_change_of (meaning_of b) p
-
-  pub record SettledBelow (b c : PendingBook S) : Type 0 where
-    pub below : stock.meaning c.below ≡ meaning_of b
-    pub empty : held c.pending ≡ []
-
-  pub record PlacedBelow (b : PendingBook S) (p : PendingLine) (c : PendingBook S) : Type 0 where
-    pub kept : has_place (changes b.pending) (key_of p) ≡ true → c ≡ b
-    pub settled : has_place (changes b.pending) (key_of p) ≡ false → SettledBelow b c
-
-  pub record NotedBelow (b : PendingBook S) (p : PendingLine) (c : PendingBook S) : Type 0 where
-    pub netted : has_place (changes b.pending) (key_of p) ≡ true → Netted b p c
-    pub settled : has_place (changes b.pending) (key_of p) ≡ false → SettledFirst b p c
+pub record Noted {S : Type 0} {g : Ghosts S} (b : PendingBook S g) (p : ChangeLine) (c : PendingBook S g) : Type 0 where
+  pub after : meaning_of c ≡ with_change_of (meaning_of b) p
+  pub netted : has_place (changes_of b.pending) (key_of p) ≡ true → Netted b p c
+  pub settled : has_place (changes_of b.pending) (key_of p) ≡ false → SettledFirst b p c

@@ -1,4 +1,4 @@
-pub mod PendingKeys
 pub mod PendingPlaces
+pub mod KeySearch
 pub mod PendingNext
 pub mod PendingEdits

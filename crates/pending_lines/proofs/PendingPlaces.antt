@@ -1,8 +1,7 @@
 -- What the rank of a key says of its change, of more copies at the key, and of the next key. Assumes nothing.
 --     Absent xs k i, Present xs k i      what holds where no line has the key, and where the line at place i has it
---     absent_since, present_since        these, from whether the key's change is 0
---     found_is                           a line has the key exactly if its change is not 0
-use Rattle.std.proofs.Common.{◌≡◌, ℕ, suc, ◌<◌, ◌≤◌, Bool, true, false, not, ◌&&◌, ltb, [], ◌∷◌, ◌++◌, length, get_or, take, drop, ℤ, pos, ◌+ℤ◌, Ordering, Less, Equal, Greater, sym, refl, ap, ◌∙◌, subst, ap₂, arith}
+--     found_absent, found_present        these, by what a search answers
+use Rattle.std.proofs.Common.{Ok, Err, cond, ◌≡◌, ℕ, suc, ◌<◌, ◌≤◌, Bool, true, false, ltb, [], ◌∷◌, ◌++◌, length, get_or, take, drop, ℤ, pos, ◌+ℤ◌, Ordering, Less, Equal, Greater, sym, refl, ap, ◌∙◌, subst, ap₂, arith}
 use lib.IntN.{+ℤ_idl}
 use Rattle.std.specs.Ordering.{is_eq, ordering_reverse}
 use Rattle.std.proofs.lemmas.Bool.{ltb-true, ltb-false}
@@ -12,7 +11,7 @@ use Rattle.bag.proofs.Numbers.{not_zero, zero_is}
 use Rattle.bag.specs.RowOrder.{order_equal, order_turned, greater_less, less_greater}
 use Rattle.bag.proofs.CanonicalForm.{count_before, count_head}
 use Rattle.bag.proofs.NextRow.{first_line, next_first, rows_after_before}
-use Rattle.pending_lines.specs.PendingLines.{no_line, rank, has_key_at}
+use Rattle.pending_lines.specs.ChangeLists.{no_line, rank, found_at}
 
 pub record Absent (xs : Lines) (k : Row) (i : ℕ) : Type 0 where
   pub none : count xs k ≡ pos 0
@@ -39,7 +38,7 @@ module _ (k : Row) where
   unfolding count
   count_behind e xs q = rw q (+ℤ_idl (count xs k))
 
-  absent : (xs : Lines) → Canonical xs → (rank xs k < length xs → row_order (get_or xs (rank xs k) no_line).0 k ≡ Equal → ⊥) → Absent xs k (rank xs k)
+  pub absent : (xs : Lines) → Canonical xs → (rank xs k < length xs → row_order (get_or xs (rank xs k) no_line).0 k ≡ Equal → ⊥) → Absent xs k (rank xs k)
   unfolding rank count add_copies next
   absent [] c n = record { none = refl; within = omega arith; added = λ m z. rw z; after = refl }
   absent (e ∷ xs) c n = by (row_order e.0 k) refl n (absent xs c.2)
@@ -58,7 +57,7 @@ module _ (k : Row) where
           let t = greater_less e.0 k q in
           record { none = count_before k (e ∷ xs) c t; within = omega arith; added = λ m z. rw (t, z); after = rw t }
 
-  present : (xs : Lines) → Canonical xs → rank xs k < length xs → row_order (get_or xs (rank xs k) no_line).0 k ≡ Equal → Present xs k (rank xs k)
+  pub present : (xs : Lines) → Canonical xs → rank xs k < length xs → row_order (get_or xs (rank xs k) no_line).0 k ≡ Equal → Present xs k (rank xs k)
   unfolding rank count add_copies next
   present [] c l h = absurd (let z : ⊥ = omega arith in z)
   present (e ∷ xs) c l h = by (row_order e.0 k) refl l h (present xs c.2)
@@ -94,24 +93,12 @@ module _ (k : Row) where
           }
       by Greater q l h rec = let z : ◌≡◌ {A = ℕ} 0 1 = cc in absurd (omega arith)
 
+  -- by what the search answers
   module _ (xs : Lines) (c : Canonical xs) where
-    either : (b d : Bool) → ltb (rank xs k) (length xs) ≡ b → is_eq (row_order (get_or xs (rank xs k) no_line).0 k) ≡ d → (b && d) ≡ not (is_zero (count xs k))
-    either true true p q = let h = present xs c (ltb-true (rank xs k) (length xs) p) (is_equal (row_order (get_or xs (rank xs k) no_line).0 k) q) in rw h.some
-      where
-        is_equal : (o : Ordering) → is_eq o ≡ true → o ≡ Equal
-        is_equal Less h = let z : ◌≡◌ {A = ℕ} 0 1 = cc in absurd (omega arith)
-        is_equal Equal h = refl
-        is_equal Greater h = let z : ◌≡◌ {A = ℕ} 0 1 = cc in absurd (omega arith)
-    either true false p q = let h = absent xs c (λ l m. let y : is_eq (row_order (get_or xs (rank xs k) no_line).0 k) ≡ true = ap is_eq m in let z : ◌≡◌ {A = ℕ} 0 1 = cc in omega arith) in rw h.none
-    either false d p q = let o = ltb-false (rank xs k) (length xs) p in let h = absent xs c (λ l m. omega arith) in rw h.none
-
-    pub found_is : has_key_at xs (rank xs k) k ≡ not (is_zero (count xs k))
-    found_is = either _ _ refl refl
-
-    pub absent_since : is_zero (count xs k) ≡ true → Absent xs k (rank xs k)
+    absent_since : is_zero (count xs k) ≡ true → Absent xs k (rank xs k)
     absent_since h = absent xs c (λ l m. not_zero (count xs k) (present xs c l m).some (zero_is (count xs k) h))
 
-    pub present_since : is_zero (count xs k) ≡ false → Present xs k (rank xs k)
+    present_since : is_zero (count xs k) ≡ false → Present xs k (rank xs k)
     present_since h = by (ltb (rank xs k) (length xs)) (is_eq (row_order (get_or xs (rank xs k) no_line).0 k)) refl refl
       where
         is_equal : (o : Ordering) → is_eq o ≡ true → o ≡ Equal
@@ -123,3 +110,17 @@ module _ (k : Row) where
         by true true p q = present xs c (ltb-true (rank xs k) (length xs) p) (is_equal (row_order (get_or xs (rank xs k) no_line).0 k) q)
         by true false p q = absurd (not_zero (count xs k) h (absent xs c (λ l m. let y : is_eq (row_order (get_or xs (rank xs k) no_line).0 k) ≡ true = ap is_eq m in let z : ◌≡◌ {A = ℕ} 0 1 = cc in omega arith)).none)
         by false d p q = let o = ltb-false (rank xs k) (length xs) p in absurd (not_zero (count xs k) h (absent xs c (λ l m. omega arith)).none)
+
+    pub found_present : (i : ℕ) → Ok i ≡ found_at xs k → Present xs k i
+    found_present i h = by (is_zero (count xs k)) refl h
+      where
+        by : (z : Bool) → is_zero (count xs k) ≡ z → Ok i ≡ cond z (Err (rank xs k)) (Ok (rank xs k)) → Present xs k i
+        by true q e = let z : ⊥ = cc in absurd z
+        by false q e = let same : i ≡ rank xs k = cc in subst (Present xs k) (sym same) (present_since q)
+
+    pub found_absent : (i : ℕ) → Err i ≡ found_at xs k → Absent xs k i
+    found_absent i h = by (is_zero (count xs k)) refl h
+      where
+        by : (z : Bool) → is_zero (count xs k) ≡ z → Err i ≡ cond z (Err (rank xs k)) (Ok (rank xs k)) → Absent xs k i
+        by true q e = let same : i ≡ rank xs k = cc in subst (Absent xs k) (sym same) (absent_since q)
+        by false q e = let z : ⊥ = cc in absurd z

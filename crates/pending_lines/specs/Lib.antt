@@ -1,1 +1,2 @@
+pub mod ChangeLists
 pub mod PendingLines

@@ -3,6 +3,7 @@ pub mod ByPlace
 pub mod HoldingCounts
 pub mod HoldingLines
 pub mod Moving
+pub mod Copies
 pub mod NextLine
 pub mod Arriving
 pub mod Flattened

@@ -16,8 +16,9 @@ fn vanishes(line: &ChangeLine, old: u16) -> bool
 // How many lines are in use once the lines are settled: those in use, and the rows that appear, without the rows that vanish. Only the
 // lines and the old counts are looked at, so it can be told before anything is changed. No sheet has more than 8,192 lines.
 pub fn lines_after<S: Stock>(stock: &S, lines: &[ChangeLine]) -> usize
-    ensures answer { (aim : Holding) → S.Stock.sound stock.now → length lines.now ≤ 8192 → LeadsInCounts (S.Stock.meaning stock.now) lines.now aim → result ≡ lines_of aim }
+    ensures answer { (aim : Holding) → length lines.now ≤ 8192 → LeadsInCounts (S.Stock.meaning stock.now) lines.now aim → result ≡ lines_of aim }
 {
+    // one loop for both counts, so that each row is looked up once
     let mut appear: usize = 0;
     let mut vanish: usize = 0;
     for line in lines {

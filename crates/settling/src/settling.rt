@@ -1,5 +1,4 @@
 ghost use Rattle.std.specs.Prelude.{◌≡◌, [], ◌∷◌, pos, ◌≤ℤ◌};
-ghost use Rattle.bag.specs.Changes.{taken};
 ghost use Rattle.bag.specs.Operators.{at_least_zero};
 ghost use Rattle.stock.specs.Holding.{Holding};
 ghost use Rattle.settling.specs.Leading.{Leads};
@@ -8,35 +7,21 @@ ghost use Rattle.settling.specs.Steps.{Takeable, Puttable, TakesLine, PutsLine, 
 use bag::lines::ChangeLine;
 use stock::stock::Stock;
 
-// How many copies a line takes, as far as a count goes.
-fn copies_lost(line: &ChangeLine) -> u16
-    ensures { taken line.now.change ≤ℤ pos 65535 → pos result ≡ taken line.now.change }
+// How many copies a change above 0 is of, as far as a count goes.
+fn copies(change: i64) -> u16
+    ensures { at_least_zero change ≤ℤ pos 65535 → pos result ≡ at_least_zero change }
 {
-    if line.change >= 0 {
-        return 0;
-    }
-    let lost = 0 - line.change as i64;
-    lost.clamp(0, 65535) as u16
+    change.clamp(0, 65535) as u16
 }
 
-// How many copies a line puts, as far as a count goes.
-fn copies_gained(line: &ChangeLine) -> u16
-    ensures { at_least_zero line.now.change ≤ℤ pos 65535 → pos result ≡ at_least_zero line.now.change }
-{
-    if line.change <= 0 {
-        return 0;
-    }
-    let gained = line.change as i64;
-    gained.clamp(0, 65535) as u16
-}
+// Taking and putting stay apart, since a take and a put are accepted on conditions of their own.
 
 // Takes what a line takes. The answer is no news: it is proved that a take that settling makes is accepted.
 fn take_line<S: Stock>(stock: &mut S, line: &ChangeLine)
     ensures memory { S.Stock.memory stock.new ≡ S.Stock.memory stock.old }
-    ensures sound { S.Stock.sound stock.old → S.Stock.sound stock.new }
-    ensures after { S.Stock.sound stock.old → TakesLine (S.Stock.meaning stock.old) line.now → Moved (S.Stock.meaning stock.old) (S.Stock.meaning stock.new) (losses (line.now ∷ [])) }
+    ensures after { TakesLine (S.Stock.meaning stock.old) line.now → Moved (S.Stock.meaning stock.old) (S.Stock.meaning stock.new) (losses (line.now ∷ [])) }
 {
-    let n = copies_lost(line);
+    let n = copies(-(line.change as i64));
     if n > 0 {
         let _ = stock.take(line.node, &line.row, n);
     }
@@ -45,10 +30,9 @@ fn take_line<S: Stock>(stock: &mut S, line: &ChangeLine)
 // Puts what a line puts; nor is such a put refused.
 fn put_line<S: Stock>(stock: &mut S, line: &ChangeLine)
     ensures memory { S.Stock.memory stock.new ≡ S.Stock.memory stock.old }
-    ensures sound { S.Stock.sound stock.old → S.Stock.sound stock.new }
-    ensures after { S.Stock.sound stock.old → PutsLine (S.Stock.meaning stock.old) line.now → Moved (S.Stock.meaning stock.old) (S.Stock.meaning stock.new) (gains (line.now ∷ [])) }
+    ensures after { PutsLine (S.Stock.meaning stock.old) line.now → Moved (S.Stock.meaning stock.old) (S.Stock.meaning stock.new) (gains (line.now ∷ [])) }
 {
-    let n = copies_gained(line);
+    let n = copies(line.change as i64);
     if n > 0 {
         let _ = stock.put(line.node, &line.row, n);
     }
@@ -57,8 +41,7 @@ fn put_line<S: Stock>(stock: &mut S, line: &ChangeLine)
 // Takes what the lines take.
 fn take_all<S: Stock>(stock: &mut S, lines: &[ChangeLine])
     ensures memory { S.Stock.memory stock.new ≡ S.Stock.memory stock.old }
-    ensures sound { S.Stock.sound stock.old → S.Stock.sound stock.new }
-    ensures after { S.Stock.sound stock.old → Takeable (S.Stock.meaning stock.old) lines.now → Moved (S.Stock.meaning stock.old) (S.Stock.meaning stock.new) (losses lines.now) }
+    ensures after { Takeable (S.Stock.meaning stock.old) lines.now → Moved (S.Stock.meaning stock.old) (S.Stock.meaning stock.new) (losses lines.now) }
 {
     for line in lines {
         take_line(stock, line);
@@ -68,8 +51,7 @@ fn take_all<S: Stock>(stock: &mut S, lines: &[ChangeLine])
 // Puts what the lines put.
 fn put_all<S: Stock>(stock: &mut S, lines: &[ChangeLine])
     ensures memory { S.Stock.memory stock.new ≡ S.Stock.memory stock.old }
-    ensures sound { S.Stock.sound stock.old → S.Stock.sound stock.new }
-    ensures after { (aim : Holding) → S.Stock.sound stock.old → Puttable (S.Stock.meaning stock.old) lines.now aim → Moved (S.Stock.meaning stock.old) (S.Stock.meaning stock.new) (gains lines.now) }
+    ensures after { (aim : Holding) → Puttable (S.Stock.meaning stock.old) lines.now aim → Moved (S.Stock.meaning stock.old) (S.Stock.meaning stock.new) (gains lines.now) }
 {
     for line in lines {
         put_line(stock, line);
@@ -80,8 +62,7 @@ fn put_all<S: Stock>(stock: &mut S, lines: &[ChangeLine])
 // call is refused on the way, and the stock then holds it.
 pub fn settle<S: Stock>(stock: &mut S, lines: &[ChangeLine])
     ensures memory { S.Stock.memory stock.new ≡ S.Stock.memory stock.old }
-    ensures sound { S.Stock.sound stock.old → S.Stock.sound stock.new }
-    ensures after { (aim : Holding) → S.Stock.sound stock.old → Leads (S.Stock.meaning stock.old) lines.now aim → S.Stock.meaning stock.new ≡ aim }
+    ensures after { (aim : Holding) → Leads (S.Stock.meaning stock.old) lines.now aim → S.Stock.meaning stock.new ≡ aim }
 {
     take_all(stock, lines);
     put_all(stock, lines);

@@ -1,5 +1,5 @@
 pub mod Rows
-pub mod EightColumns
+pub mod SameLines
 pub mod Accepted
 pub mod Plays
 pub mod Copies

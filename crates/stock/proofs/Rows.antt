@@ -1,18 +1,9 @@
--- What comparing two rows says, and what a count above 0 is. Assumes nothing.
---     rows_decide        comparing two rows decides whether they are the same
+-- What an answer of comparing two rows says of a count, and what a count above 0 is. Assumes nothing.
 --     equal_by           an answer is Equal or it is not
 --     not_equal          a count at another row is 0
 --     some_not_zero      a number of copies that is at least 1 is not 0
-use Rattle.std.proofs.Common.{◌≡◌, ℕ, zero, suc, ◌≤◌, false, ◌⊎◌, ℤ, pos, Decides, Ordering, Less, Equal, Greater, sym, refl, ap, ◌∙◌, inl, inr, arith}
-use Rattle.std.specs.Ordering.{is_eq}
-use Rattle.bag.specs.Order.{Row, row_order}
+use Rattle.std.proofs.Common.{◌≡◌, ℕ, zero, suc, ◌≤◌, false, ◌⊎◌, ℤ, pos, Ordering, Less, Equal, Greater, refl, inl, inr, arith}
 use Rattle.bag.specs.Bag.{is_zero, if_equal}
-use Rattle.bag.specs.RowOrder.{order_equal, order_itself}
-
-pub rows_decide : (a b : Row) (o : Ordering) → o ≡ row_order a b → Decides (is_eq o) (a ≡ b)
-rows_decide a b Less e = (λ t. absurd (let z : ◌≡◌ {A = ℕ} 0 1 = cc in let y : ⊥ = omega arith in y), λ q. absurd (let s = e ∙ ap (row_order a) (sym q) ∙ order_itself a in let z : ◌≡◌ {A = ℕ} 0 1 = cc in let y : ⊥ = omega arith in y))
-rows_decide a b Equal e = (λ t. order_equal a b (sym e), λ q. refl)
-rows_decide a b Greater e = (λ t. absurd (let z : ◌≡◌ {A = ℕ} 0 1 = cc in let y : ⊥ = omega arith in y), λ q. absurd (let s = e ∙ ap (row_order a) (sym q) ∙ order_itself a in let z : ◌≡◌ {A = ℕ} 0 1 = cc in let y : ⊥ = omega arith in y))
 
 pub not_equal : (o : Ordering) (n : ℤ) → (o ≡ Equal → ⊥) → if_equal o n ≡ pos 0
 not_equal Less n h = refl

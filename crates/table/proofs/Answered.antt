@@ -1,8 +1,7 @@
 -- What the answer of `add` says to a caller. Assumes nothing.
 --     refused_since      a refusal is that of a full run, and the key was absent
---     accepted_since     where it was accepted, the key was there or there was room
-use Rattle.std.proofs.Common.{◌≡◌, ℕ, Bool, true, false, cond, not, ◌&&◌, eqb, ◌⊎◌, List, length, Some, None, Ordering, refl, ap, inl, inr, arith}
-use Rattle.std.proofs.lemmas.Bool.{eqb-true, eqb-false}
+use Rattle.std.proofs.Common.{◌≡◌, ℕ, Bool, true, false, cond, not, ◌&&◌, eqb, List, length, Some, None, Ordering, refl, ap}
+use Rattle.std.proofs.lemmas.Bool.{eqb-true}
 use Rattle.table.specs.declared.full.Full.{Full}
 use Rattle.table.specs.Entries.{has_key}
 use Rattle.bag.specs.Refusal.{Refusal}
@@ -19,14 +18,6 @@ module _ {E : Type 0} (order : E → E → Ordering) (n : ℕ) (e : E) (xs : Lis
   refused_since f q = by (has_key order e xs) refl (eqb (length xs) n) refl q
     where
       by : (h : Bool) → has_key order e xs ≡ h → (b : Bool) → eqb (length xs) n ≡ b → Some (refusal_of f) ≡ cond (not h && b) (Some (full_at n)) None → Refused order n e xs f
-      by true h b c q = let z : ◌≡◌ {A = ℕ} 0 1 = cc in absurd (let y : ⊥ = omega arith in y)
-      by false h false c q = let z : ◌≡◌ {A = ℕ} 0 1 = cc in absurd (let y : ⊥ = omega arith in y)
+      by true h b c q = let z : ⊥ = cc in absurd z
+      by false h false c q = let z : ⊥ = cc in absurd z
       by false h true c q = let s : refusal_of f ≡ full_at n = cc in record { places = ap (λ (r : Refusal). r.place) s; absent = h; full = eqb-true (length xs) n c }
-
-  pub accepted_since : None ≡ add_answer order n e xs → (has_key order e xs ≡ true) ⊎ (length xs ≡ n → ⊥)
-  accepted_since q = by (has_key order e xs) refl (eqb (length xs) n) refl q
-    where
-      by : (h : Bool) → has_key order e xs ≡ h → (b : Bool) → eqb (length xs) n ≡ b → None ≡ cond (not h && b) (Some (full_at n)) None → (has_key order e xs ≡ true) ⊎ (length xs ≡ n → ⊥)
-      by true h b c q = inl h
-      by false h false c q = inr (eqb-false (length xs) n c)
-      by false h true c q = let z : ◌≡◌ {A = ℕ} 0 1 = cc in absurd (let y : ⊥ = omega arith in y)

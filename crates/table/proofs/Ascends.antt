@@ -32,9 +32,9 @@ module _ {E : Type 0} (order : E → E → Ordering) where
 
   sorted_with_by : Lawful order → (e x : E) (xs : List E) (o : Ordering) → order e x ≡ o → IsStrictlySortedBy order (x ∷ xs) → IsStrictlySortedBy order (with_entry order e xs) → IsStrictlySortedBy order (by_order o (e ∷ (x ∷ xs)) (e ∷ xs) (x ∷ with_entry order e xs))
   unfolding IsStrictlySortedBy
-  sorted_with_by law e x xs Less q s rec = ((q, weaker (λ y. order x y ≡ Less) (λ y. order e y ≡ Less) xs (λ y h. law.transitive e x y q h) s.0), s)
-  sorted_with_by law e x xs Equal q s rec = (weaker (λ y. order x y ≡ Less) (λ y. order e y ≡ Less) xs (λ y h. law.alike e x y q ∙ h) s.0, s.1)
-  sorted_with_by law e x xs Greater q s rec = (all_with (λ y. order x y ≡ Less) e xs (law.turned x e ∙ ap ordering_reverse q) s.0, rec)
+  sorted_with_by law e x xs Less q s rec = ((q, weaker (λ y. order x y ≡ Less) (λ y. order e y ≡ Less) xs (λ y h. law.trans e x y q h) s.0), s)
+  sorted_with_by law e x xs Equal q s rec = (weaker (λ y. order x y ≡ Less) (λ y. order e y ≡ Less) xs (λ y h. law.congr e x y q ∙ h) s.0, s.1)
+  sorted_with_by law e x xs Greater q s rec = (all_with (λ y. order x y ≡ Less) e xs (law.antisymm x e ∙ ap ordering_reverse q) s.0, rec)
 
   sorted_with : Lawful order → (e : E) (xs : List E) → IsStrictlySortedBy order xs → IsStrictlySortedBy order (with_entry order e xs)
   unfolding IsStrictlySortedBy

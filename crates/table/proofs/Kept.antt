@@ -5,16 +5,19 @@
 --     add_replaces, add_inserts, remove_closes, remove_leaves      the same, from what the search answered
 --     unchanged                a table stands over its own run
 --     accepts_present, accepts_room, refuses_full      what `add` answers
-use Rattle.std.proofs.Common.{◌≡◌, ℕ, suc, ◌+◌, ◌-◌, ◌<◌, ◌≤◌, min, List, ◌∷◌, ◌++◌, length, take, drop, set, replicate, Some, None, Ordering, sym, refl, ap, ◌∙◌, subst, ⊎_elim, arith}
+--     goes_in                  an absent key goes in among the entries or behind them
+use Rattle.std.proofs.Common.{◌≡◌, ℕ, suc, ◌+◌, ◌-◌, ◌<◌, ◌≤◌, min, List, ◌∷◌, ◌++◌, length, take, drop, set, replicate, Some, None, Ok, Err, false, Ordering, sym, refl, ap, ◌∙◌, subst, ⊎_elim, arith}
 use Rattle.std.proofs.lemmas.List.{length-set, length-take-le, length-append, length-replicate, length-take, length-drop, take-take, take_at, drop_at, take_all, drop-drop, drop-replicate, set-append_left}
 use Rattle.std.proofs.lemmas.Bool.{cases_lt, eq-eqb, ne_eqb}
 use Rattle.table.specs.Order.{Lawful}
-use Rattle.table.specs.Entries.{Ascending, place_of, smaller, with_entry, without_key}
+use Rattle.table.specs.Entries.{Ascending, has_key, smaller, looked_up, with_entry, without_key}
 use Rattle.table.specs.Refusals.{full_at}
 use Rattle.table.specs.Runs.{opened, closed}
+use Rattle.table.specs.declared.entry.Entry.{Ghosts}
 use Rattle.table.specs.declared.table.Table.{Table}
 use Rattle.table.specs.Tables.{HoldsRun, SoundRun, SameRun, add_answer}
 use Rattle.table.proofs.Located.{AbsentAt, present, absent, present_from, absent_from}
+use Rattle.table.proofs.Searched.{found, missing}
 use Rattle.table.proofs.Ascends.{ascending_with, ascending_without}
 
 pub take_min : {E : Type 0} (n : ℕ) (run : List E) → take (min n (length run)) run ≡ take n run
@@ -82,43 +85,37 @@ module _ {E : Type 0} (blank : E) where
           (o ∙ ap (λ ys. (ys ++ drop (suc i) xs) ++ (blank ∷ drop len run)) first ∙ ap (λ ys. (take i xs ++ drop (suc i) xs) ++ (blank ∷ ys)) rest ∙ ap (λ ys. ys ++ (blank ∷ replicate (length run - len) blank)) (sym q))
           (sym (ap length q ∙ simp (length-append, length-take, length-drop) (omega arith)))
 
-pub unchanged : {E : Type 0} (t : Table E) → SameRun t t
+pub unchanged : {E : Type 0} {g : Ghosts E} (t : Table E g) → SameRun t t
 unchanged t = record { lender = refl; long = refl }
 
 -- what a call leaves, from what its search answered
 module _ {E : Type 0} {order : E → E → Ordering} (law : Lawful order) (blank : E) (run : List E) (len : ℕ) (s : SoundRun order blank run len) (k : E) where
-  counted : (n : ℕ) → n ≡ length (take len run) → n ≡ len
-  counted n q = q ∙ length-take-le len run s.within
-
-  pub add_replaces : (i : ℕ) → place_of order k (take len run) ≡ Some i → HoldsRun blank (set run i k) len (with_entry order k (take len run))
+  pub add_replaces : (i : ℕ) → Ok i ≡ looked_up order k (take len run) → HoldsRun blank (set run i k) len (with_entry order k (take len run))
   add_replaces i q =
-      let p = present_from order law k (take len run) i s.ascending q in
+      let p = present_from order law k (take len run) i s.ascending (found order k (take len run) i q) in
       let l = length-take-le len run s.within in
       let w = p.within in
       replaced blank order run len s k i (omega arith) (present order k (take len run) i p).added
 
-  pub add_inserts : (i n : ℕ) (after : List E) → place_of order k (take len run) ≡ None → i ≡ smaller order k (take len run) → n ≡ length (take len run) → (n ≡ length run → ⊥) → after ≡ opened run i n k → HoldsRun blank after (n + 1) (with_entry order k (take len run))
-  add_inserts i n after q count c room o =
-      let a = subst (AbsentAt order k (take len run)) (sym count) (absent_from order law k (take len run) s.ascending q) in
+  pub add_inserts : (i : ℕ) (after : List E) → Err i ≡ looked_up order k (take len run) → (len ≡ length run → ⊥) → after ≡ opened run i len k → HoldsRun blank after (len + 1) (with_entry order k (take len run))
+  add_inserts i after q room o =
+      let m = missing order k (take len run) i q in
+      let a = subst (AbsentAt order k (take len run)) (sym m.count) (absent_from order law k (take len run) s.ascending m.place) in
       let l = length-take-le len run s.within in
       let w = a.within in
       let v = s.within in
-      let same = counted n c in
-      subst (λ m. HoldsRun blank after (m + 1) (with_entry order k (take len run))) (sym same)
-      (inserted blank order run len s k i after (omega arith) (omega arith) (absent order k (take len run) i a).added (o ∙ ap (λ m. opened run i m k) same))
+      inserted blank order run len s k i after (omega arith) (omega arith) (absent order k (take len run) i a).added o
 
-  pub remove_closes : (i n : ℕ) (after : List E) → place_of order k (take len run) ≡ Some i → n ≡ length (take len run) → after ≡ closed run i n blank → HoldsRun blank after (n - 1) (without_key order k (take len run))
-  remove_closes i n after q c o =
-      let p = present_from order law k (take len run) i s.ascending q in
+  pub remove_closes : (i : ℕ) (after : List E) → Ok i ≡ looked_up order k (take len run) → after ≡ closed run i len blank → HoldsRun blank after (len - 1) (without_key order k (take len run))
+  remove_closes i after q o =
+      let p = present_from order law k (take len run) i s.ascending (found order k (take len run) i q) in
       let l = length-take-le len run s.within in
       let w = p.within in
-      let same = counted n c in
-      subst (λ m. HoldsRun blank after (m - 1) (without_key order k (take len run))) (sym same)
-      (removed blank order run len s k i after (omega arith) (present order k (take len run) i p).removed (o ∙ ap (λ m. closed run i m blank) same))
+      removed blank order run len s k i after (omega arith) (present order k (take len run) i p).removed o
 
-  pub remove_leaves : None ≡ place_of order k (take len run) → HoldsRun blank run len (without_key order k (take len run))
-  remove_leaves q =
-      let a = absent_from order law k (take len run) s.ascending (sym q) in
+  pub remove_leaves : (i : ℕ) → Err i ≡ looked_up order k (take len run) → HoldsRun blank run len (without_key order k (take len run))
+  remove_leaves i q =
+      let a = absent_from order law k (take len run) s.ascending (missing order k (take len run) i q).place in
       subst (HoldsRun blank run len) (sym (absent order k (take len run) (smaller order k (take len run)) a).removed) (holds_from_sound blank order run len s)
 
   pub sound_with : (after : List E) (n : ℕ) → HoldsRun blank after n (with_entry order k (take len run)) → SoundRun order blank after n
@@ -129,13 +126,21 @@ module _ {E : Type 0} {order : E → E → Ordering} (law : Lawful order) (blank
 
 -- what `add` answers, from what its search answered
 module _ {E : Type 0} {order : E → E → Ordering} (law : Lawful order) (n : ℕ) (k : E) (xs : List E) (up : Ascending order xs) where
-  pub accepts_present : (i : ℕ) → place_of order k xs ≡ Some i → None ≡ add_answer order n k xs
-  accepts_present i q = let h = (present order k xs i (present_from order law k xs i up q)).has in rw h
+  pub accepts_present : (i : ℕ) → Ok i ≡ looked_up order k xs → None ≡ add_answer order n k xs
+  accepts_present i q = let h = (present order k xs i (present_from order law k xs i up (found order k xs i q))).has in rw h
 
-  pub accepts_room : place_of order k xs ≡ None → (length xs ≡ n → ⊥) → None ≡ add_answer order n k xs
-  accepts_room q room = let h = (absent order k xs (smaller order k xs) (absent_from order law k xs up q)).has in rw (h, ne_eqb (length xs) n room)
+  pub goes_in : (i : ℕ) → Err i ≡ looked_up order k xs → i ≤ length xs
+  goes_in i q =
+      let m = missing order k xs i q in
+      let count = m.count in
+      let within = (absent_from order law k xs up m.place).within in
+      omega arith
 
-  pub refuses_full : place_of order k xs ≡ None → (m : ℕ) → m ≡ length xs → m ≡ n → Some (full_at m) ≡ add_answer order n k xs
-  refuses_full q m count full =
-      let h = (absent order k xs (smaller order k xs) (absent_from order law k xs up q)).has in
-      ap (λ j. Some (full_at j)) full ∙ rw (h, eq-eqb (length xs) n (sym count ∙ full))
+  no_key : (i : ℕ) → Err i ≡ looked_up order k xs → has_key order k xs ≡ false
+  no_key i q = (absent order k xs (smaller order k xs) (absent_from order law k xs up (missing order k xs i q).place)).has
+
+  pub accepts_room : (i : ℕ) → Err i ≡ looked_up order k xs → (length xs ≡ n → ⊥) → None ≡ add_answer order n k xs
+  accepts_room i q room = let h = no_key i q in rw (h, ne_eqb (length xs) n room)
+
+  pub refuses_full : (i m : ℕ) → Err i ≡ looked_up order k xs → m ≡ length xs → m ≡ n → Some (full_at m) ≡ add_answer order n k xs
+  refuses_full i m q count full = let h = no_key i q in ap (λ j. Some (full_at j)) full ∙ rw (h, eq-eqb (length xs) n (sym count ∙ full))

@@ -2,7 +2,10 @@ pub mod SortedTests
 pub mod Located
 pub mod Ascends
 pub mod Lookups
+pub mod Filled
+pub mod Searched
 pub mod Shifted
 pub mod Kept
+pub mod SoundTables
 pub mod Answered
 pub mod After

@@ -2,13 +2,13 @@
 --     AbsentAt k xs i       no entry has k's key, and i entries have a smaller one
 --     PresentAt k xs i      the entry at place i has k's key
 --     absent, present       what the words of `Entries` give there
+--     flipped               how two entries compare the other way round
 --     located               every key is one of the two
 use Rattle.std.proofs.Common.{◌≡◌, ℕ, zero, suc, ◌<◌, ◌≤◌, true, false, ◌⊎◌, List, [], ◌∷◌, ◌++◌, length, get_or, take, drop, set, Some, None, Ordering, Less, Equal, Greater, sym, refl, ap, ◌∙◌, subst, inl, inr, ⊎_elim, arith}
 use Rattle.std.specs.Ordering.{ordering_reverse}
 use Rattle.std.specs.List.Sorted.{IsStrictlySortedBy}
 use Rattle.std.proofs.lemmas.Map.Keys.{Less-from_sorted}
 use Rattle.table.proofs.SortedTests.{sorted_from_test, test_from_sorted}
-use Rattle.std.proofs.lemmas.List.{get_or_read}
 use Rattle.std.proofs.lemmas.Bool.{cases_eq}
 use Rattle.table.specs.Order.{Lawful}
 use Rattle.table.specs.Entries.{Ascending, has_key, entry_of, place_of, smaller, with_entry, without_key}
@@ -96,39 +96,35 @@ module _ {E : Type 0} (order : E → E → Ordering) (k : E) where
         removed = rw (h, r.removed);
       }
 
--- what comparing with an element that was read says of its place
-pub compared : {E : Type 0} (order : E → E → Ordering) (k : E) (xs : List E) (i : ℕ) (x : E) (o : Ordering) → i < length xs → x ≡ get_or xs i x → o ≡ order k x → order k (get_or xs i k) ≡ o
-compared order k xs i x o lt read h = sym (h ∙ ap (order k) (get_or_read xs i x lt read k))
+pub flipped : {E : Type 0} {order : E → E → Ordering} → Lawful order → (x y : E) (o : Ordering) → order x y ≡ o → order y x ≡ ordering_reverse o
+flipped law x y o h = law.antisymm y x ∙ ap ordering_reverse h
 
 -- a comparison with one entry of an ascending list says how the key stands to others
 module _ {E : Type 0} {order : E → E → Ordering} (law : Lawful order) (k : E) (xs : List E) (up : Ascending order xs) where
   sorted : IsStrictlySortedBy order xs
   sorted = sorted_from_test order xs up
 
-  flipped : (x y : E) (o : Ordering) → order x y ≡ o → order y x ≡ ordering_reverse o
-  flipped x y o h = law.turned y x ∙ ap ordering_reverse h
-
   pub over : (j i : ℕ) → j ≤ i → i < length xs → order k (get_or xs i k) ≡ Greater → order k (get_or xs j k) ≡ Greater
   over j i le lt h =
       ⊎_elim (λ (q : j ≡ i). subst (λ n. order k (get_or xs n k) ≡ Greater) (sym q) h)
       (λ (q : j ≡ i → ⊥). let before : j < i = omega arith in
-      flipped (get_or xs j k) k Less (law.transitive (get_or xs j k) (get_or xs i k) k (Less-from_sorted order xs j i k sorted before lt) (flipped k (get_or xs i k) Greater h)))
+      flipped law (get_or xs j k) k Less (law.trans (get_or xs j k) (get_or xs i k) k (Less-from_sorted order xs j i k sorted before lt) (flipped law k (get_or xs i k) Greater h)))
       (cases_eq j i)
 
   pub under : (i j : ℕ) → i ≤ j → j < length xs → order k (get_or xs i k) ≡ Less → order k (get_or xs j k) ≡ Less
   under i j le lt h =
       ⊎_elim (λ (q : i ≡ j). subst (λ n. order k (get_or xs n k) ≡ Less) q h)
       (λ (q : i ≡ j → ⊥). let before : i < j = omega arith in
-      law.transitive k (get_or xs i k) (get_or xs j k) h (Less-from_sorted order xs i j k sorted before lt))
+      law.trans k (get_or xs i k) (get_or xs j k) h (Less-from_sorted order xs i j k sorted before lt))
       (cases_eq i j)
 
   pub equal_at : (i : ℕ) → i < length xs → order k (get_or xs i k) ≡ Equal → PresentAt order k xs i
   equal_at i lt h =
       record {
         within = lt;
-        before = λ j l. law.alike k (get_or xs i k) (get_or xs j k) h ∙ flipped (get_or xs j k) (get_or xs i k) Less (Less-from_sorted order xs j i k sorted l lt);
+        before = λ j l. law.congr k (get_or xs i k) (get_or xs j k) h ∙ flipped law (get_or xs j k) (get_or xs i k) Less (Less-from_sorted order xs j i k sorted l lt);
         here = h;
-        behind = λ j l m. law.alike k (get_or xs i k) (get_or xs j k) h ∙ Less-from_sorted order xs i j k sorted l m;
+        behind = λ j l m. law.congr k (get_or xs i k) (get_or xs j k) h ∙ Less-from_sorted order xs i j k sorted l m;
       }
 
 module _ {E : Type 0} (order : E → E → Ordering) where
@@ -173,11 +169,11 @@ module _ {E : Type 0} (order : E → E → Ordering) where
   pub present_from : Lawful order → (k : E) (xs : List E) (i : ℕ) → Ascending order xs → place_of order k xs ≡ Some i → PresentAt order k xs i
   present_from law k xs i up q =
       ⊎_elim (λ (f : (j : ℕ) × PresentAt order k xs j). let e = (present order k xs f.0 f.1).place in let same : f.0 ≡ i = cc in subst (PresentAt order k xs) same f.1)
-      (λ (f : (j : ℕ) × AbsentAt order k xs j). let e = (absent order k xs f.0 f.1).place in let z : ◌≡◌ {A = ℕ} 0 1 = cc in absurd (let y : ⊥ = omega arith in y))
+      (λ (f : (j : ℕ) × AbsentAt order k xs j). let e = (absent order k xs f.0 f.1).place in let z : ⊥ = cc in absurd z)
       (located law k xs up)
 
   pub absent_from : Lawful order → (k : E) (xs : List E) → Ascending order xs → place_of order k xs ≡ None → AbsentAt order k xs (smaller order k xs)
   absent_from law k xs up q =
-      ⊎_elim (λ (f : (j : ℕ) × PresentAt order k xs j). let e = (present order k xs f.0 f.1).place in let z : ◌≡◌ {A = ℕ} 0 1 = cc in absurd (let y : ⊥ = omega arith in y))
+      ⊎_elim (λ (f : (j : ℕ) × PresentAt order k xs j). let e = (present order k xs f.0 f.1).place in let z : ⊥ = cc in absurd z)
       (λ (f : (j : ℕ) × AbsentAt order k xs j). subst (AbsentAt order k xs) (sym (absent order k xs f.0 f.1).count) f.1)
       (located law k xs up)

@@ -9,6 +9,7 @@
 use Rattle.std.proofs.Common.{◌≡◌, ℕ, suc, Bool, true, false, cond, List, [], ◌∷◌, length, is_some, Some, None, Option, Ordering, Less, Equal, Greater, sym, refl, ap, ◌∙◌, subst, ⊎_elim, arith}
 use Rattle.std.specs.List.{slice_get}
 use Rattle.std.specs.Option.{option_map}
+use Rattle.std.specs.Cmp.{tied_itself}
 use Rattle.std.specs.Ordering.{is_eq, ordering_reverse}
 use Rattle.std.proofs.lemmas.List.{length-set, length-append, length-take, length-drop}
 use Rattle.table.specs.Order.{Lawful, by_order, same_key}
@@ -17,20 +18,15 @@ use Rattle.table.specs.Laws.{LookupLaws}
 use Rattle.table.proofs.Located.{AbsentAt, PresentAt, absent, present, located, present_from, under, equal_at, ascending_tail}
 use Rattle.table.proofs.Ascends.{ascending_with, ascending_without}
 
-unturned : (o : Ordering) → o ≡ ordering_reverse o → o ≡ Equal
-unturned Less h = let z : ◌≡◌ {A = ℕ} 0 1 = cc in absurd (let y : ⊥ = omega arith in y)
-unturned Equal h = refl
-unturned Greater h = let z : ◌≡◌ {A = ℕ} 0 1 = cc in absurd (let y : ⊥ = omega arith in y)
-
 same_turned : (o : Ordering) → is_eq (ordering_reverse o) ≡ is_eq o
 same_turned Less = refl
 same_turned Equal = refl
 same_turned Greater = refl
 
 equal_from_same : (o : Ordering) → is_eq o ≡ true → o ≡ Equal
-equal_from_same Less h = let z : ◌≡◌ {A = ℕ} 0 1 = cc in absurd (let y : ⊥ = omega arith in y)
+equal_from_same Less h = let z : ⊥ = cc in absurd z
 equal_from_same Equal h = refl
-equal_from_same Greater h = let z : ◌≡◌ {A = ℕ} 0 1 = cc in absurd (let y : ⊥ = omega arith in y)
+equal_from_same Greater h = let z : ⊥ = cc in absurd z
 
 module _ {E : Type 0} (order : E → E → Ordering) where
   pub place_holds : (k : E) (xs : List E) (i : ℕ) → place_of order k xs ≡ Some i → slice_get xs i ≡ entry_of order k xs
@@ -39,7 +35,7 @@ module _ {E : Type 0} (order : E → E → Ordering) where
     where
       by : (b : Bool) (p : Option ℕ) (i : ℕ) → cond b (Some 0) (option_map suc p) ≡ Some i → ((j : ℕ) → p ≡ Some j → slice_get xs j ≡ entry_of order k xs) → slice_get (x ∷ xs) i ≡ cond b (Some x) (entry_of order k xs)
       by true p i q rec = let z : i ≡ 0 = cc in ap (slice_get (x ∷ xs)) z
-      by false None i q rec = let z : ◌≡◌ {A = ℕ} 0 1 = cc in absurd (let y : ⊥ = omega arith in y)
+      by false None i q rec = let z : ⊥ = cc in absurd z
       by false (Some j) i q rec = let z : i ≡ suc j = cc in ap (slice_get (x ∷ xs)) z ∙ rec j refl
 
   pub no_place : (k : E) (xs : List E) → place_of order k xs ≡ None → entry_of order k xs ≡ None
@@ -47,9 +43,9 @@ module _ {E : Type 0} (order : E → E → Ordering) where
   no_place k (x ∷ xs) q = by (same_key order k x) (place_of order k xs) q (λ h. no_place k xs h)
     where
       by : (b : Bool) (p : Option ℕ) → cond b (Some 0) (option_map suc p) ≡ None → (p ≡ None → entry_of order k xs ≡ None) → cond b (Some x) (entry_of order k xs) ≡ None
-      by true p q rec = let z : ◌≡◌ {A = ℕ} 0 1 = cc in absurd (let y : ⊥ = omega arith in y)
+      by true p q rec = let z : ⊥ = cc in absurd z
       by false None q rec = rec refl
-      by false (Some j) q rec = let z : ◌≡◌ {A = ℕ} 0 1 = cc in absurd (let y : ⊥ = omega arith in y)
+      by false (Some j) q rec = let z : ⊥ = cc in absurd z
 
   pub has_key_place : (k : E) (xs : List E) → has_key order k xs ≡ is_some (place_of order k xs)
   has_key_place k [] = refl
@@ -69,7 +65,7 @@ module _ {E : Type 0} (order : E → E → Ordering) where
       by false rec = rec
 
   pub found_key : (k : E) (xs : List E) (x : E) → entry_of order k xs ≡ Some x → same_key order k x ≡ true
-  found_key k [] x q = let z : ◌≡◌ {A = ℕ} 0 1 = cc in absurd (let y : ⊥ = omega arith in y)
+  found_key k [] x q = let z : ⊥ = cc in absurd z
   found_key k (y ∷ xs) x q = by (same_key order k y) refl q (λ h. found_key k xs x h)
     where
       by : (b : Bool) → same_key order k y ≡ b → cond b (Some y) (entry_of order k xs) ≡ Some x → (entry_of order k xs ≡ Some x → same_key order k x ≡ true) → same_key order k x ≡ true
@@ -81,7 +77,7 @@ module _ {E : Type 0} (order : E → E → Ordering) where
   without_absent k (x ∷ xs) q = by (same_key order k x) q (λ h. without_absent k xs h)
     where
       by : (b : Bool) → cond b true (has_key order k xs) ≡ false → (has_key order k xs ≡ false → without_key order k xs ≡ xs) → cond b xs (x ∷ without_key order k xs) ≡ x ∷ xs
-      by true q rec = let z : ◌≡◌ {A = ℕ} 0 1 = cc in absurd (let y : ⊥ = omega arith in y)
+      by true q rec = let z : ⊥ = cc in absurd z
       by false q rec = ap (λ ys. x ∷ ys) (rec q)
 
   pub length_without : (k : E) (xs : List E) → length xs ≡ cond (has_key order k xs) (suc (length (without_key order k xs))) (length (without_key order k xs))
@@ -95,11 +91,11 @@ module _ {E : Type 0} (order : E → E → Ordering) where
 
 module _ {E : Type 0} {order : E → E → Ordering} (law : Lawful order) where
   pub itself : (x : E) → order x x ≡ Equal
-  itself x = unturned (order x x) (law.turned x x)
+  itself = tied_itself law
 
   pub other_key : (j k x : E) → same_key order j k ≡ false → order k x ≡ Equal → same_key order j x ≡ false
   other_key j k x h q =
-      ap is_eq (law.turned j x) ∙ same_turned (order x j) ∙ ap is_eq (sym (law.alike k x j q)) ∙ sym (same_turned (order k j)) ∙ ap is_eq (sym (law.turned j k)) ∙ h
+      ap is_eq (law.antisymm j x) ∙ same_turned (order x j) ∙ ap is_eq (sym (law.congr k x j q)) ∙ sym (same_turned (order k j)) ∙ ap is_eq (sym (law.antisymm j k)) ∙ h
 
   pub entry_of_with : (e : E) (xs : List E) → entry_of order e (with_entry order e xs) ≡ Some e
   entry_of_with e [] = rw (itself e)
@@ -168,14 +164,14 @@ module _ {E : Type 0} {order : E → E → Ordering} (law : Lawful order) where
 
   pub same_lookups : (xs ys : List E) → Ascending order xs → Ascending order ys → ((k : E) → entry_of order k xs ≡ entry_of order k ys) → xs ≡ ys
   same_lookups [] [] up vp h = refl
-  same_lookups [] (y ∷ ys) up vp h = let f = first_found y ys in let q = h y in let z : ◌≡◌ {A = ℕ} 0 1 = cc in absurd (let w : ⊥ = omega arith in w)
-  same_lookups (x ∷ xs) [] up vp h = let f = first_found x xs in let q = h x in let z : ◌≡◌ {A = ℕ} 0 1 = cc in absurd (let w : ⊥ = omega arith in w)
+  same_lookups [] (y ∷ ys) up vp h = let f = first_found y ys in let q = h y in let z : ⊥ = cc in absurd z
+  same_lookups (x ∷ xs) [] up vp h = let f = first_found x xs in let q = h x in let z : ⊥ = cc in absurd z
   same_lookups (x ∷ xs) (y ∷ ys) up vp h = by (order x y) refl
       (λ vp' h'. same_lookups xs ys (ascending_tail order x xs up) (ascending_tail order x ys vp') (tails x xs ys up vp' h'))
     where
       by : (o : Ordering) → order x y ≡ o → (Ascending order (x ∷ ys) → ((k : E) → entry_of order k (x ∷ xs) ≡ entry_of order k (x ∷ ys)) → xs ≡ ys) → x ∷ xs ≡ y ∷ ys
-      by Less q rec = let f = first_found x xs in let m = less_missing x y ys vp q in let r = h x in let z : ◌≡◌ {A = ℕ} 0 1 = cc in absurd (let w : ⊥ = omega arith in w)
-      by Greater q rec = let f = first_found y ys in let m = less_missing y x xs up (law.turned y x ∙ ap ordering_reverse q) in let r = h y in let z : ◌≡◌ {A = ℕ} 0 1 = cc in absurd (let w : ⊥ = omega arith in w)
+      by Less q rec = let f = first_found x xs in let m = less_missing x y ys vp q in let r = h x in let z : ⊥ = cc in absurd z
+      by Greater q rec = let f = first_found y ys in let m = less_missing y x xs up (law.antisymm y x ∙ ap ordering_reverse q) in let r = h y in let z : ⊥ = cc in absurd z
       by Equal q rec =
           let f = first_found x xs in
           let m : entry_of order x (y ∷ ys) ≡ Some y = rw q in

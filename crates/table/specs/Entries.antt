@@ -5,13 +5,14 @@
 --     entry_of order k xs      the entry that has k's key
 --     place_of order k xs      where that entry stands
 --     smaller order k xs       how many entries have a smaller key than k
+--     looked_up order k xs     the place of the entry that has k's key, or else the place where it would go in
 --     first_after order k xs   the first entry with a greater key than k, or none
 --     with_entry order e xs    e in the place of the entry with e's key, or before the first entry with a greater key
 --     without_key order k xs   the other entries, where one has k's key
-use Rattle.std.specs.Prelude.{ℕ, suc, Bool, true, false, ◌&&◌, cond, T, List, [], ◌∷◌, Some, None, Option}
+use Rattle.std.specs.Prelude.{ℕ, suc, Bool, true, false, ◌&&◌, cond, T, List, [], ◌∷◌, Some, None, Option, Result}
 use Rattle.std.specs.declared.cmp.Ordering.{Ordering}
 use Rattle.std.specs.Ordering.{is_lt}
-use Rattle.std.specs.Option.{option_map}
+use Rattle.std.specs.Option.{option_map, ok_or}
 use Rattle.std.specs.List.{list_all}
 use Rattle.table.specs.Order.{by_order, same_key}
 
@@ -39,6 +40,9 @@ module _ {E : Type 0} (order : E → E → Ordering) where
   abbrev pub smaller : E → List E → ℕ
   smaller k [] = 0
   smaller k (x ∷ xs) = by_order (order k x) (smaller k xs) (smaller k xs) (suc (smaller k xs))
+
+  abbrev pub looked_up : E → List E → Result ℕ ℕ
+  looked_up k xs = ok_or (place_of k xs) (smaller k xs)
 
   abbrev pub first_after : E → List E → Option E
   first_after k [] = None

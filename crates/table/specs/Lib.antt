@@ -5,3 +5,4 @@ pub mod Runs
 pub mod Refusals
 pub mod Tables
 pub mod Ordered
+pub mod LineTables

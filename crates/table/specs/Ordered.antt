@@ -5,4 +5,4 @@ use Rattle.bag.specs.Order.{LawfulOrder}
 use Rattle.table.specs.Order.{Lawful}
 
 pub lawful_from_keys : {E K : Type 0} {key : E → K} {order : E → E → Ordering} → LawfulOrder key order → Lawful order
-lawful_from_keys l = record { turned = l.turned; transitive = l.transitive; alike = l.alike }
+lawful_from_keys l = record { antisymm = l.turned; trans = l.transitive; congr = l.alike }

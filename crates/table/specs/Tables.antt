@@ -2,22 +2,23 @@
 --     items t                     the entries, in order
 --     capacity t                  how many entries there is place for: the length of the run
 --     Holds blank t xs            the entries are xs, and the whole run is xs with blanks behind
---     Sound order blank t         the keys of the entries ascend, and the whole run is the entries with blanks behind
+--     Sound order blank t         the keys of the entries ascend, and the whole run is the entries with blanks behind, as in every table
 --     HoldsRun, SoundRun          the same of a run and the number of its entries
 --     SameRun s t                 t stands over the run that s stands over, as long as it was
 --     lacks_room order n e xs     adding e to xs wants a place more than the n that there are
 --     add_answer order n e xs     what adding e to xs in a run of n places is answered
 use Rattle.std.specs.Prelude.{◌≡◌, ℕ, ◌-◌, ◌≤◌, Bool, cond, not, ◌&&◌, List, ◌++◌, length, take, replicate, Some, None, Option, ◌==◌}
 use Rattle.std.specs.declared.cmp.Ordering.{Ordering}
+use Rattle.table.specs.declared.entry.Entry.{Ghosts}
 use Rattle.table.specs.declared.table.Table.{Table}
 use Rattle.table.specs.Entries.{Ascending, has_key}
 use Rattle.bag.specs.Refusal.{Refusal}
 use Rattle.table.specs.Refusals.{full_at}
 
-abbrev pub items : {E : Type 0} → Table E → List E
+abbrev pub items : {E : Type 0} {g : Ghosts E} → Table E g → List E
 items t = take t.len t.run.now
 
-abbrev pub capacity : {E : Type 0} → Table E → ℕ
+abbrev pub capacity : {E : Type 0} {g : Ghosts E} → Table E g → ℕ
 capacity t = length t.run.now
 
 pub record HoldsRun {E : Type 0} (blank : E) (run : List E) (len : ℕ) (xs : List E) : Type 0 where
@@ -30,13 +31,13 @@ pub record SoundRun {E : Type 0} (order : E → E → Ordering) (blank : E) (run
   pub ascending : Ascending order (take len run)
   pub whole : run ≡ take len run ++ replicate (length run - len) blank
 
-abbrev pub Holds : {E : Type 0} → E → Table E → List E → Type 0
+abbrev pub Holds : {E : Type 0} {g : Ghosts E} → E → Table E g → List E → Type 0
 Holds blank t xs = HoldsRun blank t.run.now t.len xs
 
-abbrev pub Sound : {E : Type 0} → (E → E → Ordering) → E → Table E → Type 0
+abbrev pub Sound : {E : Type 0} {g : Ghosts E} → (E → E → Ordering) → E → Table E g → Type 0
 Sound order blank t = SoundRun order blank t.run.now t.len
 
-pub record SameRun {E : Type 0} (s t : Table E) : Type 0 where
+pub record SameRun {E : Type 0} {g : Ghosts E} (s t : Table E g) : Type 0 where
   pub lender : t.run.ghost_name ≡ s.run.ghost_name
   pub long : capacity t ≡ capacity s
 

@@ -5,6 +5,7 @@ ghost use Rattle.table.specs.Order.{Lawful};
 use std::cmp::Ordering;
 
 // A kind of entry. Each entry has a key, which is the part of it that `compare` looks at, and the keys have a total order.
+// It is not std's `Ord`, which would have to call entries with equal keys equal: a table replaces one by the other.
 pub trait Entry: Copy {
     // what a place holds that no entry uses
     ghost blank: { Self };

@@ -1,33 +1,9 @@
-ghost use Rattle.std.specs.Prelude.{◌≡◌, ◌<◌, ◌≤◌, length, take, replicate};
-ghost use Rattle.std.specs.List.{slice_get};
+ghost use Rattle.std.specs.Prelude.{◌≡◌, ◌<◌, ◌≤◌, length};
 ghost use Rattle.table.specs.Runs.{opened, closed};
 
 use crate::entry::Entry;
 
-// The first `len` places of a run, or all of it.
-pub(crate) fn front<E: Entry>(run: &[E], len: usize) -> &[E]
-    ensures answer { result.now ≡ take len run.now }
-    ensures within { length result.now ≤ length run.now }
-{
-    let len = len.min(run.len());
-    &run[..len]
-}
-
-// What stands at a place.
-pub(crate) fn item_at<E: Entry>(entries: &[E], place: usize) -> Option<E>
-    ensures answer { result ≡ slice_get entries.now place }
-{
-    entries.get(place).copied()
-}
-
-// Blanks every place of a run.
-pub(crate) fn blank_all<E: Entry>(run: &mut [E])
-    ensures { run.new ≡ replicate (length run.old) E.blank }
-{
-    for place in run.iter_mut() {
-        *place = E::blank();
-    }
-}
+// These stay inside the crate: they are only for places within the run, and a public function may not require that.
 
 // Moves the entries from `place` up to `len` one place up, and puts `item` at `place`.
 pub(crate) fn insert_at<E: Entry>(run: &mut [E], place: usize, len: usize, item: E)

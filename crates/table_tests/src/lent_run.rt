@@ -11,10 +11,7 @@ fn leave_one(run: &mut [StockLine], line: StockLine) -> Result<(), Full>
     ensures { run.new ≡ left_by result (replicate (length run.old) blank_stock_line) (line ∷ replicate (length run.old - 1) blank_stock_line) }
 {
     let mut table = Table::new(run);
-    match table.add(line) {
-        Ok(()) => Ok(()),
-        Err(full) => Err(full),
-    }
+    table.add(line)
 }
 
 #[test]

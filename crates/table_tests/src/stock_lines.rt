@@ -12,10 +12,9 @@ fn line(shelf: u8, column: i32, count: u16) -> StockLine {
 
 // What stands at a place: shelf, first column and count.
 fn at(table: &Table<StockLine>, place: usize) -> Option<(u8, i32, u16)> {
-    match table.get(place) {
-        Some(line) => Some((line.shelf, line.row[0], line.count)),
-        None => None,
-    }
+    table
+        .get(place)
+        .map(|line| (line.shelf, line.row[0], line.count))
 }
 
 #[test]

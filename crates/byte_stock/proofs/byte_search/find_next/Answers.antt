@@ -1,17 +1,21 @@
-use Rattle.std.proofs.Common.{◌≡◌, ℕ, ◌+◌, List, sym, subst, arith}
-use Rattle.byte_stock.specs.ByteSearch.{Best, better}
-use Rattle.bag.specs.Order.{Row}
-use Rattle.byte_stock.proofs.ByteBest.{best_more}
+use Rattle.std.proofs.Common.{map, rules, tests}
+use Rattle.std.specs.List.{filter}
+use Rattle.std.proofs.lemmas.Iterator.{YieldsList-from_slice, YieldsList-from_map}
+use Rattle.std.proofs.lemmas.Iterator.Consumers.{YieldsList-at, YieldsList-from_filter}
+use Rattle.bag.specs.Order.{row_order}
+use Rattle.bag.specs.declared.lines.StockLine.{StockLine}
+use Rattle.byte_stock.specs.ByteLines.{line_in}
+use Rattle.byte_stock.specs.ByteStored.{comes_after}
+use Rattle.byte_stock.proofs.BytePasses.{picked_by_order}
 use Rattle.byte_stock.proofs.byte_search.find_next.Goals as goal
 
-stepped : (b : List ℕ) (len s : ℕ) (r : Row) (n i k : ℕ) → k ≡ i → Best b len s r n i → Best b len s r n k
-stepped b len s r n i k e h = subst (Best b len s r n) (sym e) h
-
-pub loop-i-preserved : goal.loop-i-preserved
-loop-i-preserved c =
-    let b = c.args.bytes.now in
-    let len = c.args.len in
+pub returns : goal.returns
+returns c =
     let s = c.args.shelf in
     let r = c.args.row.now in
-    let i = c.loop-i.i in
-    stepped b len s r (i + 1) (better b len s r c.loop-i.best i) c.better-best.result c.better-best.ensures (best_more b len s r i c.loop-i.best c.loop-i.invariant (omega arith))
+    let lines = c.args.lines.now in
+    picked_by_order (λ (a b : StockLine). row_order a.row b.row) (λ a b o q k. search (rules, tests)) _ c.min_by.result (filter (comes_after s r) (map line_in lines)) c.min_by.ensures.ran
+    (YieldsList-from_filter _ (comes_after s r)
+    (YieldsList-at c.filter.ensures.source
+    (YieldsList-from_map _ line_in (YieldsList-at c.map.ensures.source (YieldsList-from_slice lines c.iter.ensures.rest)) c.map.ensures.closure (λ x b q k. search (rules, tests))))
+    c.filter.ensures.closure (λ x b q k. search (rules, tests)))

@@ -10,5 +10,5 @@ invariant-loop-line g l =
     let stock = g.S.Stock in
     (l.appear ≤ l.line-index)
     × (l.vanish ≤ l.line-index)
-    × (stock.sound l.stock → l.appear ≡ appearing (all_lines (stock.meaning l.stock)) (changes (take l.line-index l.lines)))
-    × (stock.sound l.stock → l.vanish ≡ vanishing (all_lines (stock.meaning l.stock)) (changes (take l.line-index l.lines)))
+    × (l.appear ≡ appearing (all_lines (stock.meaning l.stock)) (changes (take l.line-index l.lines)))
+    × (l.vanish ≡ vanishing (all_lines (stock.meaning l.stock)) (changes (take l.line-index l.lines)))

@@ -8,7 +8,7 @@ use Rattle.settling.proofs.NextLine.{puts_next}
 use Rattle.settling.proofs.settling.put_all.Goals as goal
 
 pub loop-line-init : goal.loop-line-init
-loop-line-init g c = (refl, (λ o. o), λ aim o t. moved_none (g.S.Stock.meaning c.args.stock.now))
+loop-line-init g c = (refl, λ aim t. moved_none (g.S.Stock.meaning c.args.stock.now))
 
 pub loop-line-preserved : goal.loop-line-preserved
 loop-line-preserved g c =
@@ -20,10 +20,9 @@ loop-line-preserved g c =
     let l = c.loop-line-test.true in
     let inv = c.loop-line.invariant in (
       c.put_line.ensures.memory ∙ inv.0,
-      (λ o. c.put_line.ensures.sound (inv.1 o)),
-      λ (aim : Holding) (o : stock.sound s) (t : Puttable (stock.meaning s) lines aim).
-          moved_more gain (stock.meaning s) (stock.meaning now) (stock.meaning c.put_line.new.stock) lines i no_line l (inv.2 aim o t)
-          (c.put_line.ensures.after (inv.1 o) (puts_next (stock.meaning s) (stock.meaning now) lines i no_line aim t l (inv.2 aim o t) (stock.lawful now (inv.1 o)))),
+      λ (aim : Holding) (t : Puttable (stock.meaning s) lines aim).
+          moved_more gain (stock.meaning s) (stock.meaning now) (stock.meaning c.put_line.new.stock) lines i no_line l (inv.1 aim t)
+          (c.put_line.ensures.after (puts_next (stock.meaning s) (stock.meaning now) lines i no_line aim t l (inv.1 aim t) (stock.lawful now))),
     )
 
 pub returns : goal.returns
@@ -34,6 +33,5 @@ returns g c =
     let inv = c.loop-line.invariant in
     record {
       memory = inv.0;
-      sound = inv.1;
-      after = λ (aim : Holding) (o : stock.sound s) (t : Puttable (stock.meaning s) lines aim). subst (λ ls. Moved (stock.meaning s) (stock.meaning c.loop-line.stock) (gains ls)) (take_all c.loop-line.line-index lines (omega arith)) (inv.2 aim o t);
+      after = λ (aim : Holding) (t : Puttable (stock.meaning s) lines aim). subst (λ ls. Moved (stock.meaning s) (stock.meaning c.loop-line.stock) (gains ls)) (take_all c.loop-line.line-index lines (omega arith)) (inv.1 aim t);
     }

@@ -8,5 +8,4 @@ abbrev pub invariant-loop-line : goal.invariant-loop-line
 invariant-loop-line g l =
     let stock = g.S.Stock in
     (stock.memory l.stock ≡ stock.memory l.initial.stock)
-    × (stock.sound l.initial.stock → stock.sound l.stock)
-    × ((aim : Holding) → stock.sound l.initial.stock → Puttable (stock.meaning l.initial.stock) l.lines aim → Moved (stock.meaning l.initial.stock) (stock.meaning l.stock) (gains (take l.line-index l.lines)))
+    × ((aim : Holding) → Puttable (stock.meaning l.initial.stock) l.lines aim → Moved (stock.meaning l.initial.stock) (stock.meaning l.stock) (gains (take l.line-index l.lines)))

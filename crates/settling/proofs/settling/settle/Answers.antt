@@ -1,4 +1,3 @@
-use Rattle.std.proofs.Common.{rules}
 use Rattle.stock.specs.Holding.{Holding}
 use Rattle.settling.specs.Leading.{Leads}
 use Rattle.settling.proofs.Arriving.{takeable_from, puttable_from, arrived}
@@ -13,13 +12,10 @@ returns g c =
     let end = c.put_all.new.stock in
     record {
       memory = cc;
-      sound = search rules;
-      after = λ (aim : Holding) (o : stock.sound s) (leads : Leads (stock.meaning s) lines aim).
+      after = λ (aim : Holding) (leads : Leads (stock.meaning s) lines aim).
           let h = stock.meaning s in
-          let law = stock.lawful s o in
-          let sound-mid = c.take_all.ensures.sound o in
-          let sound-end = c.put_all.ensures.sound sound-mid in
-          let took = c.take_all.ensures.after o (takeable_from h aim lines law leads) in
-          let gave = c.put_all.ensures.after aim sound-mid (puttable_from h aim lines law leads (stock.meaning mid) took) in
-          arrived h aim lines law leads (stock.meaning mid) (stock.meaning end) took gave (stock.lawful end sound-end);
+          let law = stock.lawful s in
+          let took = c.take_all.ensures.after (takeable_from h aim lines law leads) in
+          let gave = c.put_all.ensures.after aim (puttable_from h aim lines law leads (stock.meaning mid) took) in
+          arrived h aim lines law leads (stock.meaning mid) (stock.meaning end) took gave (stock.lawful end);
     }

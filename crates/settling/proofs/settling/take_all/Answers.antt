@@ -7,7 +7,7 @@ use Rattle.settling.proofs.NextLine.{takes_next}
 use Rattle.settling.proofs.settling.take_all.Goals as goal
 
 pub loop-line-init : goal.loop-line-init
-loop-line-init g c = (refl, (λ o. o), λ o t. moved_none (g.S.Stock.meaning c.args.stock.now))
+loop-line-init g c = (refl, λ t. moved_none (g.S.Stock.meaning c.args.stock.now))
 
 pub loop-line-preserved : goal.loop-line-preserved
 loop-line-preserved g c =
@@ -19,10 +19,9 @@ loop-line-preserved g c =
     let l = c.loop-line-test.true in
     let inv = c.loop-line.invariant in (
       c.take_line.ensures.memory ∙ inv.0,
-      (λ o. c.take_line.ensures.sound (inv.1 o)),
-      λ (o : stock.sound s) (t : Takeable (stock.meaning s) lines).
-          moved_more loss (stock.meaning s) (stock.meaning now) (stock.meaning c.take_line.new.stock) lines i no_line l (inv.2 o t)
-          (c.take_line.ensures.after (inv.1 o) (takes_next (stock.meaning s) (stock.meaning now) lines i no_line t l (inv.2 o t))),
+      λ (t : Takeable (stock.meaning s) lines).
+          moved_more loss (stock.meaning s) (stock.meaning now) (stock.meaning c.take_line.new.stock) lines i no_line l (inv.1 t)
+          (c.take_line.ensures.after (takes_next (stock.meaning s) (stock.meaning now) lines i no_line t l (inv.1 t))),
     )
 
 pub returns : goal.returns
@@ -33,6 +32,5 @@ returns g c =
     let inv = c.loop-line.invariant in
     record {
       memory = inv.0;
-      sound = inv.1;
-      after = λ (o : stock.sound s) (t : Takeable (stock.meaning s) lines). subst (λ ls. Moved (stock.meaning s) (stock.meaning c.loop-line.stock) (losses ls)) (take_all c.loop-line.line-index lines (omega arith)) (inv.2 o t);
+      after = λ (t : Takeable (stock.meaning s) lines). subst (λ ls. Moved (stock.meaning s) (stock.meaning c.loop-line.stock) (losses ls)) (take_all c.loop-line.line-index lines (omega arith)) (inv.1 t);
     }

@@ -7,5 +7,4 @@ abbrev pub invariant-loop-line : goal.invariant-loop-line
 invariant-loop-line g l =
     let stock = g.S.Stock in
     (stock.memory l.stock ≡ stock.memory l.initial.stock)
-    × (stock.sound l.initial.stock → stock.sound l.stock)
-    × (stock.sound l.initial.stock → Takeable (stock.meaning l.initial.stock) l.lines → Moved (stock.meaning l.initial.stock) (stock.meaning l.stock) (losses (take l.line-index l.lines)))
+    × (Takeable (stock.meaning l.initial.stock) l.lines → Moved (stock.meaning l.initial.stock) (stock.meaning l.stock) (losses (take l.line-index l.lines)))

@@ -1,27 +1,33 @@
-use Rattle.ordered_stock.specs.Ordered.{SoundOrdered}
-use Rattle.ordered_stock.proofs.Asked.{next_past, next_none, next_other, next_some}
+use Rattle.std.proofs.Common.{◌≡◌, Some, None, ◌∙◌, ap}
+use Rattle.bag.specs.Order.{stock_line_order}
+use Rattle.table.specs.Entries.{first_after}
+use Rattle.table.specs.Tables.{items}
+use Rattle.ordered_stock.proofs.SoundOrdered.{sound_of}
+use Rattle.ordered_stock.proofs.Asked.{key, next_past, next_none, next_other, next_some}
 use Rattle.ordered_stock.proofs.ordered.OrderedStockStock.next.Goals as goal
 
-pub returns-then-shelf-gt15 : goal.returns-then-shelf-gt15
-returns-then-shelf-gt15 c =
-    let S = SoundOrdered c.args.self.now in
-    record { answer = λ (s : S). next_past c.args.self.now c.args.shelf c.args.row.now c.if-shelf-gt15.true }
+pub returns-then-shelf-gt-LAST_SHELF : goal.returns-then-shelf-gt-LAST_SHELF
+returns-then-shelf-gt-LAST_SHELF c = record { answer = next_past c.args.self.now.table c.args.shelf c.args.row.now c.if-shelf-gt-LAST_SHELF.true }
+
+pub returns-in_err-line : goal.returns-in_err-line
+returns-in_err-line c =
+    let a = c.args.self.now in
+    let none : None ≡ first_after stock_line_order (key c.args.shelf c.args.row.now) (items a.table) =
+    c.in_err-line.ensures.answer ∙ ap (λ e. first_after stock_line_order e (items a.table)) c.key.ensures in
+    record { answer = c.from_residual.ensures ∙ next_none a.table c.args.shelf c.args.row.now (sound_of a) c.if-shelf-gt-LAST_SHELF.false none }
 
 pub returns-then-line-shelf : goal.returns-then-line-shelf
 returns-then-line-shelf c =
-    let S = SoundOrdered c.args.self.now in
-    record {
-      answer = λ (s : S). next_other c.args.self.now c.args.shelf c.args.row.now s c.if-shelf-gt15.false c.in-Some.line (c.in-Some.ensures.answer s.table) c.if-line-shelf.true;
-    }
+    let a = c.args.self.now in
+    let l = c.in_ok-line.line in
+    let there : Some l ≡ first_after stock_line_order (key c.args.shelf c.args.row.now) (items a.table) =
+    c.in_ok-line.ensures.answer ∙ ap (λ e. first_after stock_line_order e (items a.table)) c.key.ensures in
+    record { answer = next_other a.table c.args.shelf c.args.row.now (sound_of a) c.if-shelf-gt-LAST_SHELF.false l there c.if-line-shelf.true }
 
-pub returns-else-line-shelf : goal.returns-else-line-shelf
-returns-else-line-shelf c =
-    let S = SoundOrdered c.args.self.now in
-    record {
-      answer = λ (s : S). next_some c.args.self.now c.args.shelf c.args.row.now s c.if-shelf-gt15.false c.in-Some.line (c.in-Some.ensures.answer s.table) c.if-line-shelf.false;
-    }
-
-pub returns-in-None : goal.returns-in-None
-returns-in-None c =
-    let S = SoundOrdered c.args.self.now in
-    record { answer = λ (s : S). next_none c.args.self.now c.args.shelf c.args.row.now s c.if-shelf-gt15.false (c.in-None.ensures.answer s.table) }
+pub returns : goal.returns
+returns c =
+    let a = c.args.self.now in
+    let l = c.in_ok-line.line in
+    let there : Some l ≡ first_after stock_line_order (key c.args.shelf c.args.row.now) (items a.table) =
+    c.in_ok-line.ensures.answer ∙ ap (λ e. first_after stock_line_order e (items a.table)) c.key.ensures in
+    record { answer = next_some a.table c.args.shelf c.args.row.now (sound_of a) c.if-shelf-gt-LAST_SHELF.false l there c.if-line-shelf.false }

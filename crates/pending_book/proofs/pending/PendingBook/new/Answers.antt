@@ -1,27 +1,23 @@
-use Rattle.std.proofs.Common.{◌≡◌, map, sym, refl, ap, ◌∙◌, subst}
-use Rattle.bag.specs.Bag.{EachRow}
+use Rattle.std.proofs.Common.{◌≡◌, sym, ap, ◌∙◌, subst, ◌≤◌}
+use Rattle.std.specs.List.{AllByRecursion}
+use Rattle.bag.specs.declared.lines.ChangeLine.{ChangeLine}
 use Rattle.stock.specs.Holding.{LawfulHolding, lines_of}
-use Rattle.pending_lines.specs.PendingLines.{keyed, held}
-use Rattle.pending_book.specs.PendingBook.{sum_of, LowKey}
+use Rattle.pending_lines.specs.PendingLines.{held}
+use Rattle.pending_book.specs.Sums.{sum_of}
 use Rattle.pending_book.proofs.pending.PendingBook.new.Goals as goal
 
-pub returns : goal.returns
+pub invariant_of-result : goal.invariant_of-result
 unfolding sum_of
-returns g c =
-    let stock = g.S.Stock in
-    let s = c.args.stock in
+invariant_of-result g c =
+    let h = g.S.Stock.meaning c.args.stock in
     let empty = c.new.ensures.empty in
-    let same : sum_of (stock.meaning s) (held c.new.result) ≡ stock.meaning s = ap (sum_of (stock.meaning s)) empty in
+    let same : sum_of h (held c.new.result) ≡ h = ap (sum_of h) empty in
     record {
-      memory = refl;
-      same = same;
-      below = refl;
-      none = empty;
-      sound = λ (h : stock.sound s). record {
-        below = h;
-        ordered = c.new.ensures.sound;
-        shelves = subst (λ ps. EachRow LowKey (map keyed ps)) (sym empty) tt;
-        lawful = subst LawfulHolding (sym same) (stock.lawful s h);
-        counted = c.lines-lines.ensures.answer h ∙ ap lines_of (sym same);
-      };
+      shelves = subst (AllByRecursion (λ (l : ChangeLine). l.node ≤ 15)) (sym empty) tt;
+      lawful = subst LawfulHolding (sym same) (g.S.Stock.lawful c.args.stock);
+      counted = c.lines-lines.ensures.answer ∙ ap lines_of (sym same);
     }
+
+pub returns-clause-same : goal.returns-clause-same
+unfolding sum_of
+returns-clause-same g c = ap (sum_of (g.S.Stock.meaning c.args.stock)) c.new.ensures.empty

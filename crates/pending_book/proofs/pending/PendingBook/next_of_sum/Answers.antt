@@ -1,58 +1,45 @@
 use Rattle.std.proofs.Common.{◌≡◌, ℕ, zero, suc, ◌<◌, ◌≤◌, false, [], ℤ, pos, ◌+ℤ◌, Some, Option, sym, refl, ap, ◌∙◌, arith}
-use Rattle.std.proofs.lemmas.List.{get_or_past, length-map, length-take}
+use Rattle.std.proofs.lemmas.List.{get_or_past}
 use Rattle.std.specs.Option.{option_map}
 use Rattle.bag.specs.Order.{Row}
 use Rattle.bag.specs.Bag.{Lines, is_zero, count, next}
+use Rattle.stock.specs.declared.stock.Stock.{Ghosts}
 use Rattle.stock.specs.Holding.{shelf_of, copies, row_and_count}
-use Rattle.pending_lines.specs.PendingLines.{key, keyed, held, changes, count_at}
-use Rattle.pending_book.specs.PendingBook.{meaning_of, SoundBook}
-use Rattle.pending_lines.proofs.PendingKeys.{key_same}
-use Rattle.pending_book.proofs.PendingSum.{count_sum, copies_are}
-use Rattle.pending_book.proofs.PendingWalk.{walk_end, walk_found, walk_on, walk_start, walk_shorter, cancelled}
+use Rattle.settling.specs.Keys.{key}
+use Rattle.settling.proofs.KeyOrder.{key_same}
+use Rattle.settling.proofs.HoldingCounts.{copies_are}
+use Rattle.pending_lines.specs.PendingLines.{held, changes_of, count_at}
+use Rattle.pending_book.specs.declared.pending.PendingBook.{PendingBook}
+use Rattle.pending_book.specs.PendingBook.{meaning_of}
+use Rattle.pending_book.proofs.PendingSum.{count_sum}
+use Rattle.pending_book.proofs.PendingWalk.{walk_end, walk_found, walk_on, walk_shorter, cancelled}
 use Rattle.pending_book.proofs.pending.PendingBook.next_of_sum.Goals as goal
 
 some-count : (z : ℤ) (n : ℕ) → pos n ≡ z → 0 < n → is_zero z ≡ false
 some-count z zero e l = absurd (let y : ⊥ = omega arith in y)
 some-count z (suc n) e l = ap is_zero (sym e)
 
-pub returns-then-shelf-gt15 : goal.returns-then-shelf-gt15
+-- what a count of the sum is
+module _ {S : Type 0} (g : Ghosts S) (b : PendingBook S g) (s : ℕ) (low : s ≤ 15) where
+  abbrev below : Row → ℤ
+  below q = count (shelf_of (g.meaning b.below) s) q
+
+  abbrev change : Row → ℤ
+  change q = count_at b.pending s q
+
+  sums : (q : Row) → count (shelf_of (meaning_of b) s) q ≡ below q +ℤ change q
+  sums q = let six = (g.lawful b.below).sixteen in count_sum (g.meaning b.below) (held b.pending) s q (omega (arith, six))
+
+pub returns-then-shelf-gt-LAST_SHELF : goal.returns-then-shelf-gt-LAST_SHELF
 unfolding next
-returns-then-shelf-gt15 g c =
-    let stock = g.S.Stock in
+returns-then-shelf-gt-LAST_SHELF g c =
     let b = c.args.self.now in
-    record {
-      answer = λ (o : SoundBook stock b).
-          let six = o.lawful.sixteen in
-          let past : shelf_of (meaning_of stock b) c.args.shelf ≡ [] = get_or_past (meaning_of stock b).shelves c.args.shelf [] (omega arith) in
-          sym (ap (λ (xs : Lines). option_map row_and_count (next xs c.args.row.now)) past);
-    }
+    let six = b.lawful.sixteen in
+    let past : shelf_of (meaning_of b) c.args.shelf ≡ [] = get_or_past (meaning_of b).shelves c.args.shelf [] (omega (arith, six)) in
+    record { answer = sym (ap (λ (xs : Lines). option_map row_and_count (next xs c.args.row.now)) past) }
 
-pub loop-turn-init : goal.loop-turn-init
-loop-turn-init g c =
-    let stock = g.S.Stock in
-    let b = c.args.self.now in
-    λ (o : SoundBook stock b).
-    let few = o.ordered.few in
-    let long = length-map (held b.pending) keyed in
-    let front = length-take b.pending.len b.pending.lines in
-    let start = walk_start (changes b.pending) (key c.args.shelf c.args.row.now) in
-    (refl, omega (arith, few, long, front, start))
-
-pub returns-in_default : goal.returns-in_default
-returns-in_default g c =
-    let stock = g.S.Stock in
-    let b = c.args.self.now in
-    let s = c.args.shelf in
-    let low : s ≤ 15 = omega arith in
-    let xs = shelf_of (meaning_of stock b) s in
-    let f : Row → ℤ = λ q. count (shelf_of (stock.meaning b.below) s) q in
-    let k : Row → ℤ = λ q. count_at b.pending s q in
-    record {
-      answer = λ (o : SoundBook stock b).
-          let sums : (q : Row) → count xs q ≡ f q +ℤ k q = λ q. let six = (stock.lawful b.below o.below).sixteen in count_sum (stock.meaning b.below) (held b.pending) s q (omega (arith, six)) in
-          let h = c.in_default.ensures.answer o low in
-          sym (ap (option_map row_and_count) ((c.loop-turn.invariant o).0 ∙ walk_end xs (o.lawful.bags s).0 f k sums c.loop-turn.at h));
-    }
+pub loop-found-init : goal.loop-found-init
+loop-found-init g c = refl
 
 pub returns-then-n-gt0 : goal.returns-then-n-gt0
 returns-then-n-gt0 g c =
@@ -60,48 +47,51 @@ returns-then-n-gt0 g c =
     let b = c.args.self.now in
     let s = c.args.shelf in
     let low : s ≤ 15 = omega arith in
-    let xs = shelf_of (meaning_of stock b) s in
-    let f : Row → ℤ = λ q. count (shelf_of (stock.meaning b.below) s) q in
-    let k : Row → ℤ = λ q. count_at b.pending s q in
+    let xs = shelf_of (meaning_of b) s in
     let p = c.in-Some.found in
-    record {
-      answer = λ (o : SoundBook stock b).
-          let sums : (q : Row) → count xs q ≡ f q +ℤ k q = λ q. let six = (stock.lawful b.below o.below).sixteen in count_sum (stock.meaning b.below) (held b.pending) s q (omega (arith, six)) in
-          let h = c.in-Some.ensures.answer o low in
-          let n = c.sum_at-n.ensures o in
-          let are = copies_are (meaning_of stock b) o.lawful s p in
-          let some = some-count (count xs p) c.sum_at-n.result (ap pos n ∙ are) c.if-n-gt0.true in
-          let found = (c.loop-turn.invariant o).0 ∙ walk_found xs (o.lawful.bags s).0 f k sums c.loop-turn.at p h some in
-          let pair : ℕ → Option (Row × ℕ) = λ m. Some (p, m) in
-          ap pair n ∙ sym (ap (option_map row_and_count) found);
-    }
+    let n = c.sum_at-n.ensures in
+    let are = copies_are (meaning_of b) b.lawful s p in
+    let some = some-count (count xs p) c.sum_at-n.result (ap pos n ∙ are) c.if-n-gt0.true in
+    let found = c.loop-found.invariant ∙ walk_found xs (b.lawful.bags s).0 (below stock b s low) (change stock b s low) (sums stock b s low) c.loop-found.at p (c.in-Some.ensures.answer low) some in
+    let pair : ℕ → Option (Row × ℕ) = λ m. Some (p, m) in
+    record { answer = ap pair n ∙ sym (ap (option_map row_and_count) found) }
 
-pub loop-turn-preserved : goal.loop-turn-preserved
-loop-turn-preserved g c =
+pub loop-found-smaller : goal.loop-found-smaller
+loop-found-smaller g c =
     let stock = g.S.Stock in
     let b = c.args.self.now in
     let s = c.args.shelf in
     let low : s ≤ 15 = omega arith in
-    let xs = shelf_of (meaning_of stock b) s in
-    let f : Row → ℤ = λ q. count (shelf_of (stock.meaning b.below) s) q in
-    let k : Row → ℤ = λ q. count_at b.pending s q in
+    let xs = shelf_of (meaning_of b) s in
     let p = c.in-Some.found in
-    let at = c.loop-turn.at in
-    λ (o : SoundBook stock b).
-    let sums : (q : Row) → count xs q ≡ f q +ℤ k q = λ q. let six = (stock.lawful b.below o.below).sixteen in count_sum (stock.meaning b.below) (held b.pending) s q (omega (arith, six)) in
-    let h = c.in-Some.ensures.answer o low in
-    let n = c.sum_at-n.ensures o in
+    let at = c.loop-found.at in
+    let h = c.in-Some.ensures.answer low in
+    let n = c.sum_at-n.ensures in
     let left = c.if-n-gt0.false in
-    let are = copies_are (meaning_of stock b) o.lawful s p in
-    let none : count xs p ≡ pos 0 = sym are ∙ ap pos (let m : copies (meaning_of stock b) s p ≡ 0 = omega (arith, n, left) in m) in
-    let inv = c.loop-turn.invariant o in
-    let before = inv.1 in
-    let shorter = walk_shorter (changes b.pending) (key s at) (key s p) o.ordered.canonical (key_same s at p ∙ h.0) (cancelled xs (o.lawful.bags s).0 f k sums at p h none) in
-    (inv.0 ∙ walk_on xs (o.lawful.bags s).0 f k sums at p h none, omega (arith, before, shorter))
+    let are = copies_are (meaning_of b) b.lawful s p in
+    let none : count xs p ≡ pos 0 = sym are ∙ ap pos (let m : copies (meaning_of b) s p ≡ 0 = omega (arith, n, left) in m) in
+    let shorter = walk_shorter (changes_of b.pending) (key s at) (key s p) b.pending.in_order (key_same s at p ∙ h.0) (cancelled xs (b.lawful.bags s).0 (below stock b s low) (change stock b s low) (sums stock b s low) at p h none) in
+    omega (arith, shorter)
+
+pub loop-found-preserved : goal.loop-found-preserved
+loop-found-preserved g c =
+    let stock = g.S.Stock in
+    let b = c.args.self.now in
+    let s = c.args.shelf in
+    let low : s ≤ 15 = omega arith in
+    let xs = shelf_of (meaning_of b) s in
+    let p = c.in-Some.found in
+    let n = c.sum_at-n.ensures in
+    let left = c.if-n-gt0.false in
+    let are = copies_are (meaning_of b) b.lawful s p in
+    let none : count xs p ≡ pos 0 = sym are ∙ ap pos (let m : copies (meaning_of b) s p ≡ 0 = omega (arith, n, left) in m) in
+    c.loop-found.invariant ∙ walk_on xs (b.lawful.bags s).0 (below stock b s low) (change stock b s low) (sums stock b s low) c.loop-found.at p (c.in-Some.ensures.answer low) none
 
 pub returns : goal.returns
 returns g c =
     let stock = g.S.Stock in
     let b = c.args.self.now in
-    let out = c.loop-turn-test.false in
-    record { answer = λ (o : SoundBook stock b). let few = (c.loop-turn.invariant o).1 in absurd (let z : ⊥ = omega (arith, few, out) in z) }
+    let s = c.args.shelf in
+    let low : s ≤ 15 = omega arith in
+    let xs = shelf_of (meaning_of b) s in
+    record { answer = sym (ap (option_map row_and_count) (c.loop-found.invariant ∙ walk_end xs (b.lawful.bags s).0 (below stock b s low) (change stock b s low) (sums stock b s low) c.loop-found.at (c.in_default.ensures.answer low))) }

@@ -1,52 +1,58 @@
-use Rattle.std.proofs.Common.{◌≡◌, cond, List, map, sym, refl, ap, ◌∙◌, subst, arith}
-use Rattle.std.proofs.lemmas.Int.{ints}
-use Rattle.bag.specs.Bag.{EachRow}
-use Rattle.bag.proofs.EachRow.{rows_add_copies}
+use Rattle.std.proofs.Common.{◌≡◌, cond, List, sym, refl, ap, ◌∙◌, subst}
+use Rattle.bag.specs.declared.lines.ChangeLine.{ChangeLine}
 use Rattle.stock.specs.Holding.{Holding, LawfulHolding, lines_of}
-use Rattle.pending_lines.specs.PendingLines.{key_of, keyed, held, changes, with_change}
-use Rattle.pending_lines.specs.declared.pending_lines.PendingLine.{PendingLine}
-use Rattle.pending_book.specs.PendingBook.{sum_of, meaning_of, with_change_of, LowKey, Accepts, SoundBook}
+use Rattle.settling.specs.Keys.{changes}
+use Rattle.pending_lines.specs.ChangeLists.{with_change}
+use Rattle.pending_lines.specs.PendingLines.{held, changes_of}
+use Rattle.pending_book.specs.Sums.{sum_of, with_change_of, Accepts}
+use Rattle.pending_book.specs.PendingBook.{meaning_of}
 use Rattle.pending_book.proofs.PendingLawful.{lawful_with_copies}
 use Rattle.pending_book.proofs.BelowAfter.{first_line, netted_from}
-use Rattle.pending_book.proofs.PendingNoted.{addable_from, noted_sum}
+use Rattle.pending_book.proofs.PendingNoted.{fits_from, noted_sum, still_low}
 use Rattle.pending_book.proofs.pending.PendingBook.note.Goals as goal
 
-pub returns : goal.returns
-returns g c =
-    let stock = g.S.Stock in
+-- the line is added to those that are pending
+added : (g : _) (c : goal.After-add g) → changes_of c.add.new.self ≡ with_change c.args.line.now (changes_of c.make_place.new.self.pending)
+added g c =
+    let d = c.make_place.new.self in
+    let p = c.args.line.now in
+    let placed = c.make_place.ensures.after in
+    let accepted = subst (λ (m : Holding). Accepts m p) (sym placed.same) c.requires.accepted in
+    c.add.ensures.after (fits_from (g.S.Stock.meaning d.below) (held d.pending) p (g.S.Stock.lawful d.below) d.lawful accepted)
+    ∙ ap (λ t. cond t (with_change p (changes_of d.pending)) (changes_of d.pending)) placed.place
+
+-- and so to the sum
+whole : (g : _) (c : goal.After-add g) → sum_of (g.S.Stock.meaning c.make_place.new.self.below) (held c.add.new.self) ≡ with_change_of (meaning_of c.args.self.now) c.args.line.now
+whole g c =
+    let d = c.make_place.new.self in
+    let p = c.args.line.now in
+    let placed = c.make_place.ensures.after in
+    let accepted = subst (λ (m : Holding). Accepts m p) (sym placed.same) c.requires.accepted in
+    noted_sum (g.S.Stock.meaning d.below) (held d.pending) p (g.S.Stock.lawful d.below) d.lawful accepted (held c.add.new.self) (added g c)
+    ∙ ap (λ (m : Holding). with_change_of m p) placed.same
+
+pub invariant_of-self : goal.invariant_of-self
+invariant_of-self g c =
     let b = c.args.self.now in
     let d = c.make_place.new.self in
     let p = c.args.line.now in
-    let qs = held c.add.new.self in
-    let h = stock.meaning d.below in
-    let ps = held d.pending in
-    let placed = λ (o : SoundBook stock b). c.make_place.ensures.after o in
-    let law = λ (o : SoundBook stock b). stock.lawful d.below (placed o).sound.below in
-    let accepted = λ (o : SoundBook stock b) (a : Accepts (meaning_of stock b) p). subst (λ (m : Holding). Accepts m p) (sym (placed o).same) a in
-    let addable = λ (o : SoundBook stock b) (a : Accepts (meaning_of stock b) p). addable_from h ps p (law o) (placed o).sound.lawful (accepted o a) in
-    let done = λ (o : SoundBook stock b) (a : Accepts (meaning_of stock b) p).
-    c.add.ensures.after (placed o).sound.ordered (addable o a)
-    ∙ ap (λ t. cond t (with_change p (changes d.pending)) (changes d.pending)) (c.add.ensures.answer (placed o).sound.ordered ∙ (placed o).place) in
     record {
-      memory = c.make_place.ensures.memory;
-      after = λ (o : SoundBook stock b) (a : Accepts (meaning_of stock b) p) (n : c.args.lines ≡ lines_of (with_change_of (meaning_of stock b) p)).
-          let whole : sum_of h qs ≡ with_change_of (meaning_of stock b) p =
-          noted_sum h ps p (law o) (placed o).sound.lawful (accepted o a) qs (done o a) ∙ ap (λ (m : Holding). with_change_of m p) (placed o).same in
-          let low = a.shelf in
-          record {
-            sound = record {
-              below = (placed o).sound.below;
-              ordered = c.add.ensures.sound (placed o).sound.ordered (addable o a);
-              shelves = subst (EachRow LowKey) (sym (done o a)) (rows_add_copies LowKey (key_of p) p.change (changes d.pending) (omega (arith, ints, low)) (placed o).sound.shelves);
-              lawful = subst LawfulHolding (sym whole) (lawful_with_copies (meaning_of stock b) p o.lawful a);
-              counted = n ∙ ap lines_of (sym whole);
-            };
-            after = whole;
-          };
-      below = λ (o : SoundBook stock b) (a : Accepts (meaning_of stock b) p) (n : c.args.lines ≡ lines_of (with_change_of (meaning_of stock b) p)).
-          let under = c.make_place.ensures.below o in
-          record {
-            netted = λ h. netted_from stock b p d (under.kept h) refl (done o a);
-            settled = λ h. record { below = (under.settled h).below; pending = done o a ∙ ap (λ (qs : List PendingLine). with_change p (map keyed qs)) (under.settled h).empty ∙ first_line p a.some };
-          };
+      shelves = still_low (held d.pending) (held c.add.new.self) p c.requires.accepted.shelf (added g c) d.shelves;
+      lawful = subst LawfulHolding (sym (whole g c)) (lawful_with_copies (meaning_of b) p b.lawful c.requires.accepted);
+      counted = c.requires.counted ∙ ap lines_of (sym (whole g c));
+    }
+
+pub returns-clause-after : goal.returns-clause-after
+returns-clause-after g c =
+    let b = c.args.self.now in
+    let d = c.make_place.new.self in
+    let p = c.args.line.now in
+    let placed = c.make_place.ensures.after in
+    record {
+      after = whole g c.before;
+      netted = λ h. netted_from g.S.Stock b p d (placed.kept h) refl (added g c.before);
+      settled = λ h. record {
+        below = (placed.settled h).below;
+        pending = added g c.before ∙ ap (λ (qs : List ChangeLine). with_change p (changes qs)) (placed.settled h).empty ∙ first_line p c.requires.accepted.some;
+      };
     }

@@ -1,118 +1,113 @@
-use Rattle.std.proofs.Common.{◌≡◌, ◌+◌, ◌<◌, ◌≤◌, pos, Err, Result, sym, refl, ap, ◌∙◌, subst, arith}
-use Rattle.pending_lines.specs.declared.pending_lines.PendingLine.{PendingLine}
+use Rattle.std.proofs.Common.{◌≡◌, ◌+◌, ◌<◌, ◌≤◌, false, ℤ, pos, Err, Result, sym, ap, ◌∙◌, subst, arith, rules}
+use Rattle.bag.specs.declared.lines.ChangeLine.{ChangeLine}
 use Rattle.bag.specs.Refusal.{Refusal, refusal, left_by}
-use Rattle.stock.specs.Holding.{lines_of, with_copies}
+use Rattle.stock.specs.Holding.{lines_of, with_copies, lacks_room, put_answer}
+use Rattle.settling.proofs.Moving.{accepted_put}
 use Rattle.pending_lines.specs.PendingLines.{held}
-use Rattle.pending_book.specs.PendingBook.{meaning_of, with_change_of, gain_of, Accepts, SoundBook}
+use Rattle.pending_book.specs.Sums.{with_change_of, gain_of, Accepts}
+use Rattle.pending_book.specs.PendingBook.{meaning_of}
 use Rattle.pending_book.proofs.PendingSum.{capacity_sum}
-use Rattle.pending_book.proofs.SettlingSteps.{accepted_put}
-use Rattle.pending_book.proofs.BelowAfter.{after_nothing, after_refusal, after_change}
-use Rattle.pending_book.proofs.PendingCalls.{some_gain, put_ok, put_full, room_present, room_free, room_none, room_lacking, no_copies, lines_more, lines_kept, accepts_gain}
+use Rattle.pending_book.proofs.PendingCalls.{put_ok, full_answer, room_present, room_free, room_none, room_lacking, no_copies, lines_more, lines_kept, accepts_gain, gain_number}
 use Rattle.pending_book.proofs.pending.PendingBook.put.Goals as goal
+use Rattle.pending_book.proofs.pending.PendingBook.put.Goals.{then-old-eq0+else-lines-capacity, else-old-eq0}
 
-pub returns-then-n-eq0 : goal.returns-then-n-eq0
-returns-then-n-eq0 g c =
-    let stock = g.S.Stock in
+pub returns-then-n-eq0-clause-after : goal.returns-then-n-eq0-clause-after
+returns-then-n-eq0-clause-after g c =
     let b = c.args.self.now in
+    let M = meaning_of b in
     let s = c.args.shelf in
     let r = c.args.row.now in
     let n = c.args.n in
+    let is = c.sum_at-old.ensures in
     let none : n ≡ 0 = omega arith in
-    let low : s ≤ 15 = omega arith in
-    let M = meaning_of stock b in
-    record {
-      memory = refl;
-      sound = λ o. o;
-      answer = λ (o : SoundBook stock b). let is = c.sum_at-old.ensures o in sym (put_ok M s r n low (omega (arith, is)) (room_none M s r n none));
-      after = λ (o : SoundBook stock b). let is = c.sum_at-old.ensures o in sym (accepted_put M s r n low (omega (arith, is)) (room_none M s r n none) ∙ ap (λ m. with_copies M s r (pos m)) none ∙ no_copies M s r o.lawful);
-      below = λ (o : SoundBook stock b). after_nothing stock b (gain_of s r n) _ (ap pos none);
-    }
+    sym (accepted_put M s r n (omega arith) (omega (arith, is)) (room_none M s r n none) ∙ ap (λ m. with_copies M s r (pos m)) none ∙ no_copies M s r b.lawful)
 
-pub returns-then-old-gt0 : goal.returns-then-old-gt0
-returns-then-old-gt0 g c =
-    let stock = g.S.Stock in
+-- a line too many is refused
+refused : (g : _) (c : goal.Then-lines-capacity g) → Err (refusal 9 c.capacity-capacity.result) ≡ put_answer (meaning_of c.args.self.now) c.args.shelf c.args.row.now c.args.n
+refused g c =
     let b = c.args.self.now in
+    let M = meaning_of b in
     let s = c.args.shelf in
     let r = c.args.row.now in
     let n = c.args.n in
-    let some : 0 < n = omega arith in
-    let low : s ≤ 15 = omega arith in
-    let M = meaning_of stock b in
-    let line = c.gain_line.ensures in
-    let kept_by = λ (o : SoundBook stock b). let is = c.sum_at-old.ensures o in lines_kept M s r n o.lawful low some (omega (arith, is)) in
-    let accepted = λ (o : SoundBook stock b).
-    let is = c.sum_at-old.ensures o in
-    let kept = kept_by o in
-    let room = o.lawful.room in
-    subst (Accepts M) (sym line) (accepts_gain M s r n o.lawful low some c.read_columns.ensures (omega (arith, is)) (omega (arith, kept, room))) in
-    let counted_by = λ (o : SoundBook stock b).
-    let kept = kept_by o in
-    o.counted ∙ sym kept ∙ ap (λ (p : PendingLine). lines_of (with_change_of M p)) (sym line) in
-    let noted = λ (o : SoundBook stock b). c.note.ensures.after o (accepted o) (counted_by o) in
-    let under = λ (o : SoundBook stock b). c.note.ensures.below o (accepted o) (counted_by o) in
-    record {
-      memory = c.note.ensures.memory;
-      sound = λ (o : SoundBook stock b). (noted o).sound;
-      answer = λ (o : SoundBook stock b). let is = c.sum_at-old.ensures o in sym (put_ok M s r n low (omega (arith, is)) (room_present M s r n (omega (arith, is))));
-      after = λ (o : SoundBook stock b). let is = c.sum_at-old.ensures o in (noted o).after ∙ ap (with_change_of M) line ∙ sym (accepted_put M s r n low (omega (arith, is)) (room_present M s r n (omega (arith, is))));
-      below = λ (o : SoundBook stock b). after_change stock b (gain_of s r n) c.gain_line.result line (some_gain n some) (under o);
-    }
+    let is = c.sum_at-old.ensures in
+    let room = b.lawful.room in
+    let counted = b.counted in
+    let cap = c.capacity-capacity.ensures.answer ∙ sym (capacity_sum (g.S.Stock.meaning b.below) (held b.pending)) in
+    let lacking = room_lacking M s r n (omega arith) (omega (arith, is)) (omega (arith, room, counted, cap)) in
+    full_answer M s r n c.capacity-capacity.result (omega arith) (omega (arith, is)) lacking cap
 
-pub returns-then-lines-capacity : goal.returns-then-lines-capacity
-returns-then-lines-capacity g c =
-    let stock = g.S.Stock in
+pub returns-then-lines-capacity-clause-answer : goal.returns-then-lines-capacity-clause-answer
+returns-then-lines-capacity-clause-answer g c = refused g c
+
+pub returns-then-lines-capacity-clause-after : goal.returns-then-lines-capacity-clause-after
+returns-then-lines-capacity-clause-after g c = ap (λ (a : Result (Unit {0}) Refusal). left_by a (meaning_of c.args.self.now) (with_copies (meaning_of c.args.self.now) c.args.shelf c.args.row.now (pos c.args.n))) (refused g c)
+
+-- what is noted
+line : (g : _) (c : goal.After-note-arg-2-1 g) → c.change_line.result ≡ gain_of c.args.shelf c.args.row.now c.args.n
+line g c = c.change_line.ensures ∙ ap (λ (z : ℤ). record { node = c.args.shelf; row = c.args.row.now; change = z }) (gain_number c.args.n (omega arith))
+
+-- how many lines the sum then has
+grown : (g : _) (c : goal.After-note-arg-2-1 g) → c.if-old-eq0.lines ≡ lines_of (with_copies (meaning_of c.args.self.now) c.args.shelf c.args.row.now (pos c.args.n))
+grown g c =
     let b = c.args.self.now in
+    let M = meaning_of b in
     let s = c.args.shelf in
     let r = c.args.row.now in
     let n = c.args.n in
-    let some : 0 < n = omega arith in
-    let low : s ≤ 15 = omega arith in
-    let M = meaning_of stock b in
-    let answer = λ (o : SoundBook stock b).
-    let is = c.sum_at-old.ensures o in
-    let room = o.lawful.room in
-    let counted = o.counted in
-    let cap = c.capacity-capacity.ensures.answer o.below ∙ sym (capacity_sum (stock.meaning b.below) (held b.pending)) in
-    put_full M s r n low (omega (arith, is)) (room_lacking M s r n some (omega (arith, is)) (omega (arith, room, counted, cap))) ∙ ap (λ m. Err (refusal 9 m)) (sym cap) in
-    record {
-      memory = refl;
-      sound = λ o. o;
-      answer = λ (o : SoundBook stock b). sym (answer o);
-      after = λ (o : SoundBook stock b). sym (ap (λ (a : Result (Unit {0}) Refusal). left_by a M (with_copies M s r (pos n))) (answer o));
-      below = λ (o : SoundBook stock b). after_refusal stock b (gain_of s r n) _;
-    }
+    let is = c.sum_at-old.ensures in
+    let counted = b.counted in
+    elim c.if-old-eq0.branch [
+      | then-old-eq0+else-lines-capacity w ↦ let more = lines_more M s r n b.lawful (omega arith) (omega arith) (let e = w.if-old-eq0.true in omega (arith, is, e)) in let e = w.lines-is in omega (arith, more, e, counted)
+      | else-old-eq0 w ↦ let kept = lines_kept M s r n b.lawful (omega arith) (omega arith) (let e = w.if-old-eq0.false in omega (arith, is, e)) in let e = w.lines-is in omega (arith, kept, e, counted)
+    ]
 
-pub returns : goal.returns
-returns g c =
-    let stock = g.S.Stock in
+-- there is room for them
+roomy : (g : _) (c : goal.After-note-arg-2-1 g) → c.if-old-eq0.lines ≤ (meaning_of c.args.self.now).capacity
+roomy g c =
     let b = c.args.self.now in
-    let s = c.args.shelf in
-    let r = c.args.row.now in
-    let n = c.args.n in
-    let some : 0 < n = omega arith in
-    let low : s ≤ 15 = omega arith in
-    let M = meaning_of stock b in
-    let line = c.gain_line-2.ensures in
-    let free = λ (o : SoundBook stock b).
-    let cap = c.capacity-capacity.ensures.answer o.below ∙ sym (capacity_sum (stock.meaning b.below) (held b.pending)) in
-    let counted = o.counted in
-    let f : lines_of M < M.capacity = omega (arith, cap, counted) in
-    f in
-    let more_by = λ (o : SoundBook stock b). let is = c.sum_at-old.ensures o in lines_more M s r n o.lawful low some (omega (arith, is)) in
-    let accepted = λ (o : SoundBook stock b).
-    let is = c.sum_at-old.ensures o in
-    let more = more_by o in
-    let room = free o in
-    subst (Accepts M) (sym line) (accepts_gain M s r n o.lawful low some c.read_columns.ensures (omega (arith, is)) (omega (arith, more, room))) in
-    let counted_by = λ (o : SoundBook stock b).
-    let more = more_by o in
-    ap (λ m. m + 1) o.counted ∙ sym more ∙ ap (λ (p : PendingLine). lines_of (with_change_of M p)) (sym line) in
-    let noted = λ (o : SoundBook stock b). c.note-2.ensures.after o (accepted o) (counted_by o) in
-    let under = λ (o : SoundBook stock b). c.note-2.ensures.below o (accepted o) (counted_by o) in
-    record {
-      memory = c.note-2.ensures.memory;
-      sound = λ (o : SoundBook stock b). (noted o).sound;
-      answer = λ (o : SoundBook stock b). let is = c.sum_at-old.ensures o in sym (put_ok M s r n low (omega (arith, is)) (room_free M s r n (free o)));
-      after = λ (o : SoundBook stock b). let is = c.sum_at-old.ensures o in (noted o).after ∙ ap (with_change_of M) line ∙ sym (accepted_put M s r n low (omega (arith, is)) (room_free M s r n (free o)));
-      below = λ (o : SoundBook stock b). after_change stock b (gain_of s r n) c.gain_line-2.result line (some_gain n some) (under o);
-    }
+    let cap = capacity_sum (g.S.Stock.meaning b.below) (held b.pending) in
+    let counted = b.counted in
+    let room = b.lawful.room in
+    elim c.if-old-eq0.branch [
+      | then-old-eq0+else-lines-capacity w ↦ let a = w.capacity-capacity.ensures.answer in let e = w.lines-is in let f = w.if-lines-capacity.false in omega (arith, a, e, f, cap)
+      | else-old-eq0 w ↦ let e = w.lines-is in omega (arith, e, counted, room)
+    ]
+
+lacks : (g : _) (c : goal.After-note-arg-2-1 g) → lacks_room (meaning_of c.args.self.now) c.args.shelf c.args.row.now c.args.n ≡ false
+lacks g c =
+    let b = c.args.self.now in
+    let M = meaning_of b in
+    let is = c.sum_at-old.ensures in
+    let cap = capacity_sum (g.S.Stock.meaning b.below) (held b.pending) in
+    let counted = b.counted in
+    elim c.if-old-eq0.branch [
+      | then-old-eq0+else-lines-capacity w ↦ room_free M c.args.shelf c.args.row.now c.args.n (let a = w.capacity-capacity.ensures.answer in let f = w.if-lines-capacity.false in omega (arith, a, f, cap, counted))
+      | else-old-eq0 w ↦ room_present M c.args.shelf c.args.row.now c.args.n (let e = w.if-old-eq0.false in omega (arith, is, e))
+    ]
+
+pub note-requires-clause-accepted : goal.note-requires-clause-accepted
+note-requires-clause-accepted g c =
+    let b = c.args.self.now in
+    let M = meaning_of b in
+    let is = c.sum_at-old.ensures in
+    let fits : c.sum_at-old.result + c.args.n < 65536 = search rules in
+    let more = grown g c in
+    let room = roomy g c in
+    subst (Accepts M) (sym (line g c)) (accepts_gain M c.args.shelf c.args.row.now c.args.n b.lawful (omega arith) (omega arith) c.read_columns.ensures (omega (arith, is, fits)) (omega (arith, more, room)))
+
+pub note-requires-clause-counted : goal.note-requires-clause-counted
+note-requires-clause-counted g c = grown g c ∙ ap (λ (p : ChangeLine). lines_of (with_change_of (meaning_of c.args.self.now) p)) (sym (line g c))
+
+pub returns-clause-answer : goal.returns-clause-answer
+returns-clause-answer g c =
+    let is = c.sum_at-old.ensures in
+    let fits : c.sum_at-old.result + c.args.n < 65536 = search rules in
+    sym (put_ok (meaning_of c.args.self.now) c.args.shelf c.args.row.now c.args.n (omega arith) (omega (arith, is, fits)) (lacks g c.before))
+
+pub returns-clause-after : goal.returns-clause-after
+returns-clause-after g c =
+    let M = meaning_of c.args.self.now in
+    let is = c.sum_at-old.ensures in
+    let fits : c.sum_at-old.result + c.args.n < 65536 = search rules in
+    c.note.ensures.after.after ∙ ap (with_change_of M) (line g c.before) ∙ sym (accepted_put M c.args.shelf c.args.row.now c.args.n (omega arith) (omega (arith, is, fits)) (lacks g c.before))

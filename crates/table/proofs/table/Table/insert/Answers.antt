@@ -1,64 +1,40 @@
-use Rattle.std.proofs.Common.{◌≡◌, ◌+◌, ◌<◌, length, None, refl, ◌∙◌, arith, rules}
-use Rattle.std.proofs.lemmas.List.{length-take}
-use Rattle.table.specs.Entries.{place_of, smaller}
-use Rattle.table.specs.Tables.{Sound, items, capacity}
-use Rattle.table.proofs.Kept.{add_inserts, sound_with, holds_from_sound, accepts_room, refuses_full, unchanged}
+use Rattle.std.proofs.Common.{◌+◌, ◌∙◌, sym, arith}
+use Rattle.std.proofs.lemmas.List.{length-take-le}
+use Rattle.table.specs.Tables.{items, capacity}
+use Rattle.table.proofs.Kept.{add_inserts, sound_with, goes_in, accepts_room, refuses_full}
+use Rattle.table.proofs.SoundTables.{sound_table}
 use Rattle.table.proofs.table.Table.insert.Goals as goal
 
 pub insert_at-requires : goal.insert_at-requires
 insert_at-requires g c =
-    let l = length-take c.args.self.now.len c.args.self.now.run.now in
-    let n = c.len-len.ensures.answer in
-    let p = c.requires in
-    let full = c.if-len-self.false in
+    let t = c.args.self.now in
+    let l = length-take-le t.len t.run.now t.within in
+    let fits = goes_in g.met.E.Entry.lawful (capacity t) c.args.entry (items t) t.ascending c.args.place c.requires in
+    let within = t.within in
+    let room = c.if-len-self.false in
     (omega arith, omega arith)
 
-pub overflow_add-self : goal.overflow_add-self
-overflow_add-self g c =
-    let l = length-take c.args.self.now.len c.args.self.now.run.now in
-    let n = c.len-len.ensures.answer in
-    let full = c.if-len-self.false in
-    let less : c.len-len.result < length c.args.self.now.run.now = omega arith in
-    search rules
-
-pub returns-then-len-self : goal.returns-then-len-self
-returns-then-len-self g c =
-    let law = g.met.E.Entry.lawful in
-    let order = g.E.Entry.order in
-    let blank = g.E.Entry.blank in
+pub returns-then-len-self-clause-answer : goal.returns-then-len-self-clause-answer
+returns-then-len-self-clause-answer g c =
     let t = c.args.self.now in
-    let k = c.args.entry in
-    let S = Sound order blank t in
-    let Q = place_of order k (items t) ≡ None in
-    let full = c.if-len-self.true in
-    record {
-      same = unchanged t;
-      sound = λ s q p. s;
-      answer = λ (s : S) (q : Q). refuses_full law (capacity t) k (items t) s.ascending q c.len-len.result c.len-len.ensures.answer full;
-      after = λ (s : S) q p. holds_from_sound blank order t.run.now t.len s;
-      refused = refl {a = t};
-    }
+    refuses_full g.met.E.Entry.lawful (capacity t) c.args.entry (items t) t.ascending c.args.place t.len c.requires (sym (length-take-le t.len t.run.now t.within)) c.if-len-self.true
 
-pub returns : goal.returns
-returns g c =
-    let law = g.met.E.Entry.lawful in
-    let order = g.E.Entry.order in
-    let blank = g.E.Entry.blank in
+pub invariant_of-self : goal.invariant_of-self
+invariant_of-self g c =
     let t = c.args.self.now in
-    let k = c.args.entry in
-    let i = c.args.place in
-    let n = c.len-len.result in
+    let law = g.met.E.Entry.lawful in
+    let blank = g.E.Entry.blank in
+    let e = c.args.entry in
     let after = c.insert_at.new.run in
-    let S = Sound order blank t in
-    let Q = place_of order k (items t) ≡ None in
-    let P = i ≡ smaller order k (items t) in
-    let counted = c.len-len.ensures.answer in
-    let room = c.if-len-self.false in
-    let holds = λ (s : S) (q : Q) (p : P). add_inserts law blank t.run.now t.len s k i n after q p counted room c.insert_at.ensures in
-    record {
-      same = record { lender = refl {a = t.run.ghost_name}; long = c.insert_at.auto.run };
-      sound = λ (s : S) (q : Q) (p : P). sound_with law blank t.run.now t.len s k after (n + 1) (holds s q p);
-      answer = λ (s : S) (q : Q). accepts_room law (capacity t) k (items t) s.ascending q (λ h. room (counted ∙ h));
-      after = holds;
-      refused = tt;
-    }
+    let s = sound_with law blank t.run.now t.len (sound_table t) e after (t.len + 1) (add_inserts law blank t.run.now t.len (sound_table t) e c.args.place after c.requires c.if-len-self.false c.insert_at.ensures) in
+    record { within = s.within; ascending = s.ascending; blanks = s.whole }
+
+pub returns-clause-answer : goal.returns-clause-answer
+returns-clause-answer g c =
+    let t = c.args.self.now in
+    accepts_room g.met.E.Entry.lawful (capacity t) c.args.entry (items t) t.ascending c.args.place c.requires (λ h. c.if-len-self.false (sym (length-take-le t.len t.run.now t.within) ∙ h))
+
+pub returns-clause-after : goal.returns-clause-after
+returns-clause-after g c =
+    let t = c.args.self.now in
+    (add_inserts g.met.E.Entry.lawful g.E.Entry.blank t.run.now t.len (sound_table t) c.args.entry c.args.place c.insert_at.new.run c.requires c.if-len-self.false c.insert_at.ensures).entries
