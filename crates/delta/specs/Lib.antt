@@ -1,2 +1,3 @@
 pub mod NodeChange
-pub mod Walks
+pub mod Writing
+pub mod Changed

@@ -4,23 +4,20 @@
 --     LowerNode w old d new          what is known of a node below: its change leads from its old to its new bag, of rows w wide
 --     Setting h ws k old ds news     the stock holds h, of the node k the bag `old`; ds are the changes and news the new bags of the
 --                                    nodes below, whose rows are as wide as ws says
---     Filled room sheet used ds      the sheet has the changes ds, and room for all of them
---     node_answer new fit used       what working out a node answers: Over, then Wide, then how many lines the sheet has
---     with_change ds d               the lines of the changes ds and of d, the change of the next node
---     NodeChange h k new fit ds room sheet r      the answer r, and what stands on the sheet: the lines below, and behind them the
---                                    difference of the node's old bag and `new`; fit says whether every group that it shows fits
+--     LinesOf c d lines              the lines are the change d of the node c, no more than a sheet has
+--     node_answer new fit            what working out a node answers: Over, then Wide; fit says whether every group that it shows fits
 --     over_at old d                  some changed row comes to a count above 65,535
-use Rattle.std.specs.Prelude.{◌≡◌, ℕ, ◌<◌, ◌≤◌, Bool, true, cond, not, List, [], ◌∷◌, ◌++◌, length, ℤ, pos, ◌+ℤ◌, Ok, Err, Result, int_le, slice_index}
+use Rattle.std.specs.Prelude.{◌≡◌, ℕ, ◌<◌, ◌≤◌, Bool, true, cond, not, List, length, ℤ, pos, ◌+ℤ◌, Ok, Err, Result, int_le, slice_index}
 use Rattle.std.specs.List.{AllByRecursion}
 use Rattle.bag.specs.declared.lines.ChangeLine.{ChangeLine}
 use Rattle.bag.specs.Order.{Row}
 use Rattle.bag.specs.Columns.{OfWidth}
-use Rattle.bag.specs.Bag.{Lines, count, EachRow, every_line, difference}
+use Rattle.bag.specs.Bag.{Lines, count, EachRow, every_line}
 use Rattle.bag.specs.Measure.{ShownColumn}
 use Rattle.bag.specs.Changes.{Changes}
 use Rattle.stock.specs.Holding.{Holding, shelf_of}
 use Rattle.plan.specs.Afresh.{board}
-use Rattle.sheet.specs.Sheets.{flattened, tally, OnSheet}
+use Rattle.sheet.specs.Sheets.{of_node}
 use Rattle.delta.specs.declared.fault.NodeFault.{NodeFault}
 use Rattle.delta.specs.declared.fault.NodeFault.TheVariants.{Over, Wide}
 
@@ -49,18 +46,10 @@ pub record Setting (h : Holding) (ws : List ℕ) (k : ℕ) (old : Lines) (ds new
   pub own : shelf_of h k ≡ old
   pub lower : (i : ℕ) → i < k → LowerNode (slice_index ws i) (shelf_of h i) (board ds i) (board news i)
 
--- the sheet has the changes of the nodes below, and none was too long for it
-pub record Filled (room : ℕ) (sheet : List ChangeLine) (used : ℕ) (ds : List Lines) : Type 0 where
-  pub on_sheet : OnSheet room sheet used (flattened 0 ds)
-  pub room_enough : length (flattened 0 ds) ≤ room
+-- the lines of the change of a node below, as many as a sheet has at most
+pub record LinesOf (c : ℕ) (d : Lines) (lines : List ChangeLine) : Type 0 where
+  pub are : lines ≡ of_node c d
+  pub few : length d ≤ 8192
 
-abbrev pub node_answer : Lines → Bool → ℕ → Result ℕ NodeFault
-node_answer new fit used = cond (counts_fit new) (cond fit (Ok used) (Err Wide)) (Err Over)
-
-abbrev pub with_change : List Lines → Lines → List ChangeLine
-with_change ds d = flattened 0 (ds ++ (d ∷ []))
-
-pub record NodeChange (h : Holding) (k : ℕ) (new : Lines) (fit : Bool) (ds : List Lines) (room : ℕ) (sheet : List ChangeLine) (r : Result ℕ NodeFault) : Type 0 where
-  pub answer : r ≡ node_answer new fit (tally room (with_change ds (difference (shelf_of h k) new)))
-  pub on_sheet : counts_fit new ≡ true → fit ≡ true →
-      OnSheet room sheet (tally room (with_change ds (difference (shelf_of h k) new))) (with_change ds (difference (shelf_of h k) new))
+abbrev pub node_answer : Lines → Bool → Result (Unit {0}) NodeFault
+node_answer new fit = cond (counts_fit new) (cond fit (Ok tt) (Err Wide)) (Err Over)

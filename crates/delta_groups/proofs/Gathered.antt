@@ -4,7 +4,7 @@
 --     ascends_added, count_added, length_added      one line more
 --     gathered_more             lines added up one by one, from the end
 --     ascends_gathered, count_gathered, length_gathered      all of them
---     canonical_without, count_without, without_more         the lines that have copies
+--     canonical_without, count_without         the lines that have copies
 --     count_small, sum_fits     numbers within ±65,535 add up to what 32 bits hold
 use Rattle.std.proofs.Common.{◌≡◌, ℕ, suc, ◌+◌, ◌*◌, ◌<◌, ◌≤◌, Bool, true, false, cond, [], ◌∷◌, ◌++◌, length, ℤ, pos, ◌+ℤ◌, nat_abs, Some, None, Option, Ordering, Less, Equal, Greater, sym, refl, ap, ◌∙◌, subst, ap₂, mul-suc, arith, w32, SFits, rules}
 use lib.IntN.{+ℤ_idl, +ℤ_idr}
@@ -12,7 +12,7 @@ use Rattle.std.proofs.lemmas.Int.{ints}
 use Rattle.std.specs.Ordering.{is_eq}
 use Rattle.bag.specs.declared.lines.ChangeLine.{ChangeLine}
 use Rattle.bag.specs.Order.{Row, row_order, change_line_order}
-use Rattle.bag.specs.Bag.{Line, Lines, is_zero, if_equal, copies_at, count, with_line, Before, Canonical}
+use Rattle.bag.specs.Bag.{Line, Lines, is_zero, if_equal, copies_at, count, Before, Canonical}
 use Rattle.bag.specs.RowOrder.{order_itself, order_equal, greater_less, less_greater}
 use Rattle.bag.proofs.CanonicalForm.{before_transitive, canonical_with_line}
 use Rattle.bag.specs.Integers.{if_equal_adds, if_equal_zero}
@@ -20,7 +20,8 @@ use Rattle.bag.proofs.Numbers.{zero_is}
 use Rattle.table.specs.Order.{by_order}
 use Rattle.table.specs.Entries.{entry_of, with_entry}
 use Rattle.sheet.specs.Sheets.{change_line, of_node}
-use Rattle.delta_groups.specs.Nets.{Ascends, added, gathered_onto, without_zeros, SmallLines}
+use Rattle.delta.specs.Writing.{without_zeros}
+use Rattle.delta_groups.specs.Nets.{Ascends, added, gathered_onto, SmallLines}
 
 -- ---- a row among lines whose rows ascend
 
@@ -168,16 +169,6 @@ count_without (e ∷ xs) q = by (is_zero e.1) refl (count_without xs q)
     by : (t : Bool) → is_zero e.1 ≡ t → count (without_zeros xs) q ≡ count xs q → count (cond t (without_zeros xs) (e ∷ without_zeros xs)) q ≡ count (e ∷ xs) q
     by true z ih = ih ∙ sym (ap (λ n. copies_at q e.0 n +ℤ count xs q) (zero_is e.1 z) ∙ ap (λ n. n +ℤ count xs q) (if_equal_zero (row_order e.0 q)) ∙ +ℤ_idl (count xs q))
     by false z ih = ap (λ n. copies_at q e.0 e.1 +ℤ n) ih
-
-pub without_more : (xs : Lines) (e : Line) → without_zeros (xs ++ (e ∷ [])) ≡ without_zeros xs ++ with_line e.0 e.1 []
-unfolding without_zeros
-without_more [] e = refl
-without_more (x ∷ xs) e = by (is_zero x.1) (without_more xs e)
-  where
-    by : (t : Bool) → without_zeros (xs ++ (e ∷ [])) ≡ without_zeros xs ++ with_line e.0 e.1 [] →
-        cond t (without_zeros (xs ++ (e ∷ []))) (x ∷ without_zeros (xs ++ (e ∷ []))) ≡ cond t (without_zeros xs) (x ∷ without_zeros xs) ++ with_line e.0 e.1 []
-    by true ih = ih
-    by false ih = ap (λ t. x ∷ t) ih
 
 -- ---- how large sums are
 

@@ -3,7 +3,7 @@
 --     below_is        the row below a group
 --     front_is, belongs_is      whether a row begins with the values of a group
 --     shown_is        what stands behind the copies
---     row_is          the row of a group, if its value fits
+--     row_is          the row of a group that has copies, if its value fits
 --     read_is, read_some      copies and value of a group, read from a row, and from the row that a look finds
 use Rattle.std.proofs.Common.{◌≡◌, ℕ, suc, ◌+◌, ◌-◌, ◌≤◌, Bool, true, false, cond, List, [], ◌∷◌, ◌++◌, length, take, drop, replicate, ℤ, pos, negsuc, Some, None, Option, sym, ap, ◌∙◌, ap₂, append_assoc, arith, take-take}
 use lib.Seq.{take-append-add}
@@ -12,14 +12,14 @@ use Rattle.std.specs.Ordering.{is_eq}
 use Rattle.std.specs.Option.{option_map}
 use Rattle.bag.specs.Order.{Row, row_order}
 use Rattle.bag.specs.Columns.{column_of, padded, followed}
-use Rattle.bag.specs.Bag.{Line}
+use Rattle.bag.specs.Bag.{Line, is_zero}
 use Rattle.bag.specs.Measure.{Measure}
 use Rattle.bag.specs.Propagation.{below_group, read_row}
 use Rattle.bag.proofs.GroupKeys.{take_padded, order_keys}
 use Rattle.stock.specs.Holding.{row_and_count}
 use Rattle.measure.specs.Shown.{shown}
 use Rattle.measure.specs.Rows.{padded_behind}
-use Rattle.delta_groups.specs.Groups.{IsGroup, RoomForGroup, row_if_fits}
+use Rattle.delta_groups.specs.Groups.{IsGroup, RoomForGroup, row_if_fits, row_if_there}
 
 pub made_row : (a : List ℤ) (c : ℤ) (cols : List ℤ) → padded (a ++ padded (c ∷ padded cols)) ≡ padded (a ++ (c ∷ cols))
 made_row a c cols =
@@ -58,8 +58,8 @@ shown_is n m r h e =
     take-take m 8 (drop (suc n) r ++ replicate 8 (pos 0)) (omega arith) ∙ take-append-le m (drop (suc n) r) (replicate 8 (pos 0)) (omega arith)
 
 module _ {V : Type 0} (M : Measure V) (n : ℕ) (k : Row) where
-  pub row_is : (c z : ℤ) (v : V) (s behind row : Row) → Some s ≡ shown M v → behind ≡ padded (z ∷ s) → z ≡ c → row ≡ followed n k behind → Some row ≡ row_if_fits M n k c v
-  row_is c z v s behind row is e f g = by (M.fits v) is
+  pub row_is : (c z : ℤ) (v : V) (s behind row : Row) → is_zero c ≡ false → Some s ≡ shown M v → behind ≡ padded (z ∷ s) → z ≡ c → row ≡ followed n k behind → Some row ≡ row_if_there M n k c v
+  row_is c z v s behind row some is e f g = by (M.fits v) is ∙ sym (ap (λ t. cond t None (row_if_fits M n k c v)) some)
     where
       by : (t : Bool) → Some s ≡ cond t (Some (padded (M.columns v))) None → Some row ≡ cond t (Some (padded (take n k ++ (c ∷ M.columns v)))) None
       by true q =

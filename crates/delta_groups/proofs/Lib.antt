@@ -1,6 +1,8 @@
+pub mod ReadLines
 pub mod Gathered
 pub mod NetTables
 pub mod ImageSums
+pub mod ImageRows
 pub mod Picked
 pub mod GroupRows
 pub mod Touched

@@ -15,7 +15,8 @@ use Rattle.bag.proofs.Bounds.{count_most}
 use Rattle.stock.specs.Holding.{Holding, LawfulHolding, shelf_of, copies}
 use Rattle.stock.proofs.Accepted.{count_is_copies}
 use Rattle.delta.specs.NodeChange.{LowerNode}
-use Rattle.delta_groups.specs.Nets.{gathered, without_zeros, SmallLines}
+use Rattle.delta.specs.Writing.{without_zeros}
+use Rattle.delta_groups.specs.Nets.{gathered, SmallLines}
 use Rattle.delta_groups.proofs.Gathered.{ascends_gathered, count_gathered, canonical_without, count_without}
 
 pub picked : (g : Row → Row) (d : Lines) → without_zeros (gathered (map_rows g d)) ≡ project g d

@@ -1,9 +1,10 @@
 -- A total's walk over its groups at its end has worked out its change. Assumes nothing.
+--     lines_most         a bag has no more lines than all of them
 --     ready_groups       what is known of every group before its rows are exchanged
---     total_finished     then the walk meets the contract of a total
-use Rattle.std.proofs.Common.{◌≡◌, ℕ, zero, suc, ◌*◌, ◌<◌, ◌≤◌, Bool, true, false, cond, not, List, [], ◌∷◌, length, get_or, ℤ, pos, ◌+ℤ◌, nat_abs, ◌≤ℤ◌, Ok, Err, Result, sym, refl, ap, ◌∙◌, subst, ap₂, arith, w32, SFits, rules}
+--     total_finished     then what it wrote or told meets the contract of a total
+use Rattle.std.proofs.Common.{◌≡◌, ℕ, zero, suc, ◌*◌, ◌<◌, ◌≤◌, true, false, inl, inr, List, [], ◌∷◌, length, get_or, ℤ, pos, ◌+ℤ◌, nat_abs, ◌≤ℤ◌, Ok, Err, Result, sym, refl, ap, ◌∙◌, subst, arith, w32, SFits, rules}
+use Rattle.std.proofs.lemmas.Bool.{not-true}
 use Rattle.std.proofs.lemmas.Int.{ints}
-use Rattle.bag.specs.declared.lines.ChangeLine.{ChangeLine}
 use Rattle.bag.specs.Order.{Row}
 use Rattle.bag.specs.Columns.{listed}
 use Rattle.bag.specs.Bag.{Lines, is_zero, IsBag, every_line, difference}
@@ -20,19 +21,20 @@ use Rattle.bag.proofs.ReadBack.{column_worth_adds_up, total_is_rows, read_group_
 use Rattle.bag.proofs.TestsAtChanges.{every_passes, fit_follows_change}
 use Rattle.stock.specs.Holding.{Holding, LawfulHolding, shelf_of, lines_on}
 use Rattle.plan.specs.Afresh.{board}
-use Rattle.sheet.specs.Sheets.{flattened}
 use Rattle.delta.specs.declared.fault.NodeFault.{NodeFault}
-use Rattle.delta.specs.declared.fault.NodeFault.TheVariants.{Over, Wide}
-use Rattle.delta.specs.NodeChange.{counts_fit, over_at, LowerNode, Setting, NodeChange}
-use Rattle.delta.proofs.Finished.{counts_told, finished}
+use Rattle.delta.specs.declared.writer.ChangeWriter.{ChangeWriter}
+use Rattle.delta.specs.NodeChange.{counts_fit, over_at, LowerNode, Setting}
+use Rattle.delta.specs.Writing.{SameTask}
+use Rattle.delta.specs.Changed.{NodeChange}
+use Rattle.delta.proofs.Finished.{counts_told, finished, not_fitting}
 use Rattle.delta_groups.specs.Nets.{gathered}
 use Rattle.delta_groups.specs.Groups.{IsGroup, RoomForGroup}
-use Rattle.delta_groups.specs.Totals.{exchanges, fit_after, Ready, Totalled}
+use Rattle.delta_groups.specs.Totals.{exchanges, fit_after, Ready, Exchanged}
 use Rattle.delta_groups.proofs.OwnTotal.{exchanges_are, fits_are}
 
 -- ---- a group before its rows are exchanged
 
-lines_most : (bags : List Lines) (s : ℕ) → length (get_or bags s []) ≤ lines_on bags
+pub lines_most : (bags : List Lines) (s : ℕ) → length (get_or bags s []) ≤ lines_on bags
 unfolding lines_on
 lines_most [] s = omega arith
 lines_most (b ∷ bags) zero = omega arith
@@ -77,16 +79,14 @@ unfolding every_line map_groups
 one_each row-for [] = refl
 one_each row-for (e ∷ gs) = one_each row-for gs
 
-not-true : (a : Bool) → not a ≡ true → a ≡ false
-not-true true h = let z : ◌≡◌ {A = ℕ} 0 1 = cc in absurd (let w : ⊥ = omega arith in w)
-not-true false h = refl
+module _ {V : Type 0} {ok : V → Type 0} (M : Measure V) (L : MeasureLaws ok M) (j : ℕ) (is : List ℕ) {S : Type 0} (meaning : S → Holding) (v w : ChangeWriter S) (same : SameTask v w) (law : LawfulHolding (meaning v.stock.now)) (c : ℕ) (ws : List ℕ) (ds news : List Lines) (low : c < v.node)
+    (at : Setting (meaning v.stock.now) ws v.node (total M j is (shelf_of (meaning v.stock.now) c)) ds news) (room_for : RoomForGroup M (length is)) (fits : all_groups_fit M j is (shelf_of (meaning v.stock.now) c) ≡ true) where
+  abbrev h : Holding
+  h = meaning v.stock.now
 
-not_false : (a : Bool) → false ≡ not a → a ≡ true
-not_false true h = refl
-not_false false h = let z : ◌≡◌ {A = ℕ} 0 1 = cc in absurd (let w : ⊥ = omega arith in w)
+  abbrev k : ℕ
+  k = v.node
 
-module _ {V : Type 0} {ok : V → Type 0} (M : Measure V) (L : MeasureLaws ok M) (j : ℕ) (is : List ℕ) (h : Holding) (law : LawfulHolding h) (k c : ℕ) (ws : List ℕ) (ds news : List Lines) (low : c < k)
-    (at : Setting h ws k (total M j is (shelf_of h c)) ds news) (room_for : RoomForGroup M (length is)) (fits : all_groups_fit M j is (shelf_of h c) ≡ true) where
   abbrev before : Lines
   before = shelf_of h c
 
@@ -118,24 +118,18 @@ module _ {V : Type 0} {ok : V → Type 0} (M : Measure V) (L : MeasureLaws ok M)
       ∙ sym (fits_are M j is (omega arith) (shelf_of h k) d (at.lower c low).changes.in_order)
 
   -- a total's counts are 1
+  counts : counts_fit (total M j is after) ≡ true
+  counts = ap counts_fit (total_is_rows M j is after (omega arith)) ∙ one_each _ (pick is after)
+
   never_over : over_at (shelf_of h k) out ≡ false
   never_over = not-true (over_at (shelf_of h k) out)
-      (sym (counts_told h law k (total M j is after) out bag (out_is ∙ ap (λ (b : Lines). difference b (total M j is after)) (sym at.own)))
-      ∙ ap counts_fit (total_is_rows M j is after (omega arith)) ∙ one_each _ (pick is after))
+      (sym (counts_told h law k (total M j is after) out bag (out_is ∙ ap (λ (b : Lines). difference b (total M j is after)) (sym at.own))) ∙ counts)
 
-  pub total_finished : (room : ℕ) (sheet : List ChangeLine) (used : ℕ) (over wide : Bool) → Totalled M (length is) (group_of M j is d) h k room sheet used over wide (flattened 0 ds) xs →
-      (r : Result ℕ NodeFault) → (wide ≡ true → r ≡ Err Wide) → (wide ≡ false → r ≡ cond over (Err Over) (Ok used)) → NodeChange h k (total M j is after) (all_groups_fit M j is after) ds room sheet r
-  total_finished room sheet used over wide t r wide_is else_is =
-      finished h law k ws (total M j is before) ds news at (total M j is after) bag out out_is (all_groups_fit M j is after) (over_at (shelf_of h k) out) refl room sheet used
-      (λ o f. (t.walked (told ∙ ap not f)).on_sheet) r (answer wide refl)
-    where
-      told : wide ≡ not (all_groups_fit M j is after)
-      told = t.told ∙ ap not (sym fit_is)
-
-      answer : (b : Bool) → wide ≡ b → r ≡ cond (over_at (shelf_of h k) out) (Err Over) (cond (all_groups_fit M j is after) (Ok used) (Err Wide))
-      answer true e =
-          let f : all_groups_fit M j is after ≡ false = not-true (all_groups_fit M j is after) (sym told ∙ e) in
-          wide_is e ∙ sym (ap₂ (λ a b. cond a (Err Over) (cond b (Ok used) (Err Wide))) never_over f)
-      answer false e =
-          let f : all_groups_fit M j is after ≡ true = not_false (all_groups_fit M j is after) (sym e ∙ told) in
-          else_is e ∙ ap (λ b. cond b (Err Over) (Ok used)) (t.walked e).told ∙ sym (ap (λ b. cond (over_at (shelf_of h k) out) (Err Over) (cond b (Ok used) (Err Wide))) f)
+  pub total_finished : (r : Result (Unit {0}) NodeFault) → Exchanged meaning v w out (every_line (fit_after M (length is) (shelf_of h k) (group_of M j is d)) xs) r →
+      NodeChange meaning v w (total M j is after) (all_groups_fit M j is after) r
+  total_finished (Ok u) done =
+      finished meaning v w same law ws (total M j is before) ds news at (total M j is after) bag out out_is (all_groups_fit M j is after) (fit_is ∙ done.1) (Ok u) done.0
+  total_finished (Err f) (inl many) = absurd (let e = sym many.count ∙ never_over in let z : ⊥ = cc in z)
+  total_finished (Err f) (inr wide) =
+      subst (λ g. NodeChange meaning v w (total M j is after) (all_groups_fit M j is after) (Err g)) (sym wide.0)
+      (not_fitting meaning v w same law ws (total M j is before) ds news at (total M j is after) bag out out_is (all_groups_fit M j is after) (fit_is ∙ wide.1) counts)

@@ -1,13 +1,11 @@
 -- The values of groups, added up line by line. Assumes nothing.
---     worth_put, worth_none, no_place_past      what a worth does to the values, where its group stands and where it does not
---     cleared            values set one by one
---     front_length, front_set      the front of the values set
+--     worth_put, worth_none      what a worth does to the values, where its group stands and where it does not
 --     values_none        the values over no line
 --     value_more, values_more        the values over one line more
 --     deltas_are         copies and values as the walk over the groups takes them
-use Rattle.std.proofs.Common.{◌≡◌, ℕ, ◌+◌, ◌<◌, ◌≤◌, ◌≢◌, ◌⊎◌, List, [], ◌∷◌, ◌++◌, length, get_or, take, drop, set, ℤ, pos, Some, None, Ordering, Less, Equal, Greater, sym, refl, ap, ◌∙◌, ap₂, inl, inr, arith, get_or-set_other, get_or-set_same}
+use Rattle.std.proofs.Common.{◌≡◌, ℕ, ◌+◌, ◌<◌, ◌≤◌, ◌≢◌, ◌⊎◌, List, [], ◌∷◌, ◌++◌, length, get_or, take, replicate, set, ℤ, pos, Some, None, Ordering, Less, Equal, Greater, sym, refl, ap, ◌∙◌, ap₂, inl, inr, arith, get_or-set_other, get_or-set_same}
 use lib.IntN.{+ℤ_idl}
-use Rattle.std.proofs.lemmas.List.{take_more, get_or-map, length-map, get_or_default, get_or_append_left, length-append, length-take, length-drop}
+use Rattle.std.proofs.lemmas.List.{take_more, get_or-map, length-map, get_or_default, get_or-replicate}
 use Rattle.std.proofs.lemmas.Bool.{cases_lt}
 use Rattle.bag.specs.declared.lines.ChangeLine.{ChangeLine}
 use Rattle.bag.specs.Order.{Row, row_order, change_line_order}
@@ -21,7 +19,7 @@ use Rattle.bag.proofs.KeyOrder.{change_lines_are_ordered_by_key}
 use Rattle.bag.specs.Integers.{count-++}
 use Rattle.bag.proofs.GroupMoves.{group_value_ok, group_value_moves}
 use Rattle.bag.proofs.ReadBack.{column_worth_adds_up}
-use Rattle.table.specs.declared.table.Table.{Table}
+use Rattle.table.specs.LineTables.{ChangeTable}
 use Rattle.table.specs.Order.{Lawful}
 use Rattle.table.specs.Entries.{place_of, smaller}
 use Rattle.table.specs.Tables.{items}
@@ -36,7 +34,7 @@ use Rattle.delta_groups.proofs.Touched.{count_at}
 lawful : Lawful change_line_order
 lawful = lawful_from_keys change_lines_are_ordered_by_key
 
-module _ (t : Table ChangeLine) (xs : Lines) (n : Nets t xs) (r : Row) where
+module _ (t : ChangeTable) (xs : Lines) (n : Nets t xs) (r : Row) where
   abbrev key : ChangeLine
   key = change_line 0 (r, pos 0)
 
@@ -56,7 +54,7 @@ module _ (t : Table ChangeLine) (xs : Lines) (n : Nets t xs) (r : Row) where
     worth_put vs p a w b at fits is sum i e z h = by (cases_lt i p) (cases_lt p i)
       where
         there : PresentAt change_line_order key (items t) p
-        there = present_from change_line_order lawful key (items t) p n.sound.ascending (sym at)
+        there = present_from change_line_order lawful key (items t) p t.ascending (sym at)
 
         inside : p < length vs
         inside = let a = there.within in let l = long in omega arith
@@ -78,48 +76,19 @@ module _ (t : Table ChangeLine) (xs : Lines) (n : Nets t xs) (r : Row) where
     worth_none vs w at i e z h = apart (row_order r (get_or xs i e).0) (get_or vs i z) w (by (cases_lt i (smaller change_line_order key (items t))))
       where
         there : AbsentAt change_line_order key (items t) (smaller change_line_order key (items t))
-        there = absent_from change_line_order lawful key (items t) n.sound.ascending (sym at)
+        there = absent_from change_line_order lawful key (items t) t.ascending (sym at)
 
         by : (i < smaller change_line_order key (items t)) ⊎ (smaller change_line_order key (items t) ≤ i) → (row_order r (get_or xs i e).0 ≡ Less) ⊎ (row_order r (get_or xs i e).0 ≡ Greater)
         by (inl l) = inr (sym (order_at i e h) ∙ there.before i l)
         by (inr l) = inl (sym (order_at i e h) ∙ there.behind i l (let s = long in omega arith))
 
-  -- the place found is within the values
-  pub no_place_past : (p m : ℕ) → Some p ≡ place_of change_line_order key (items t) → length xs ≤ m → m ≤ p → ⊥
-  no_place_past p m at fits l =
-      let a = (present_from change_line_order lawful key (items t) p n.sound.ascending (sym at)).within in
-      let s = long in
-      omega arith
-
--- one value more is set
-pub cleared : {V : Type 0} (vs : List V) (i : ℕ) (a b : V) → i < length vs → a ≡ b → ((k : ℕ) (z : V) → k < i → get_or vs k z ≡ b) → (k : ℕ) (z : V) → k < i + 1 → get_or (set vs i a) k z ≡ b
-cleared {V = V} vs i a b h e below k z l = by (cases_lt k i)
-  where
-    by : (k < i) ⊎ (i ≤ k) → get_or (set vs i a) k z ≡ b
-    by (inl m) = get_or-set_other vs i k a z (let ne : k ≢ i = omega arith in ne) ∙ below k z m
-    by (inr m) = let q : k ≡ i = omega arith in ap (λ j. get_or (set vs i a) j z) q ∙ get_or-set_same vs i a z h ∙ e
-
--- the front of the values is set, and the rest is left
-module _ {V : Type 0} (vs front : List V) (len : ℕ) (within : len ≤ length vs) (long : length front ≡ length (take len vs)) where
-  pub front_length : length (front ++ drop len vs) ≡ length vs
-  front_length =
-      let a = length-append front (drop len vs) in
-      let b = length-take len vs in
-      let c = length-drop len vs in
-      omega arith
-
-  pub front_set : (b : V) → ((i : ℕ) (z : V) → i < length (take len vs) → get_or front i z ≡ b) → (i : ℕ) (z : V) → i < len → get_or (front ++ drop len vs) i z ≡ b
-  front_set b h i z l =
-      let t = length-take len vs in
-      get_or_append_left front (drop len vs) z i (omega arith) ∙ h i z (omega arith)
-
 module _ {V : Type 0} {ok : V → Type 0} (M : Measure V) (L : MeasureLaws ok M) (j : ℕ) (is : List ℕ) where
   abbrev G : Group V
   G = M.group
 
-  pub values_none : (xs : Lines) (vs : List V) (m : ℕ) → length xs ≤ m → ((i : ℕ) (z : V) → i < m → get_or vs i z ≡ M.group.zero) → ValuesOf M j is [] xs vs
+  pub values_none : (xs : Lines) (vs : List V) → length xs ≤ length vs → vs ≡ replicate (length vs) M.group.zero → ValuesOf M j is [] xs vs
   unfolding group_value sum_over
-  values_none xs vs m l h i e z lt = h i z (omega arith)
+  values_none xs vs l are i e z h = ap (λ (t : List V). get_or t i z) are ∙ get_or-replicate (length vs) i M.group.zero z (omega arith)
 
   one_line : (e : Line) (k : Row) (o : Ordering) → G.plus (worth_if_equal G o (column_worth M j e.0 e.1)) G.zero ≡ worth_if_equal G o (column_worth M j e.0 e.1)
   one_line e k o = L.group_laws.commutative _ _ (fine o) L.group_laws.ok_zero ∙ L.group_laws.neutral _ (fine o)

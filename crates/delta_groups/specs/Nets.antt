@@ -2,18 +2,15 @@
 --     Ascends xs          the rows of xs strictly ascend; numbers of 0 are allowed
 --     added r n xs        n more copies of r among the lines xs; a row whose copies come to 0 stays
 --     gathered ys         the lines ys added up one by one
---     without_zeros xs    the lines of xs whose number is not 0
 --     SmallLines ys       every number is within ±65,535
---     Nets t xs           the table t is sound and its entries are the lines xs
+--     Nets t xs           the entries of the table t are the lines xs
 use Rattle.std.specs.Prelude.{◌≡◌, ◌≤◌, [], ◌∷◌, ℤ, ◌+ℤ◌, unsigned_abs}
 use Rattle.std.specs.List.{AllByRecursion}
-use Rattle.bag.specs.declared.lines.ChangeLine.{ChangeLine}
-use Rattle.bag.specs.Order.{Row, row_order, change_line_order}
-use Rattle.bag.specs.Bag.{Lines, Before, with_line}
-use Rattle.bag.specs.Lines.{blank_change_line}
-use Rattle.table.specs.declared.table.Table.{Table}
+use Rattle.bag.specs.Order.{Row, row_order}
+use Rattle.bag.specs.Bag.{Lines, Before}
+use Rattle.table.specs.LineTables.{ChangeTable}
 use Rattle.table.specs.Order.{by_order}
-use Rattle.table.specs.Tables.{items, Sound}
+use Rattle.table.specs.Tables.{items}
 use Rattle.sheet.specs.Sheets.{of_node}
 
 abbrev pub Ascends : Lines → Type 0
@@ -31,14 +28,9 @@ gathered_onto xs (e ∷ ys) = gathered_onto (added e.0 e.1 xs) ys
 abbrev pub gathered : Lines → Lines
 gathered ys = gathered_onto [] ys
 
-unfoldable pub without_zeros : Lines → Lines
-without_zeros [] = []
-without_zeros (e ∷ xs) = with_line e.0 e.1 (without_zeros xs)
-
 abbrev pub SmallLines : Lines → Type 0
 SmallLines ys = AllByRecursion (λ e. unsigned_abs e.1 ≤ 65535) ys
 
-pub record Nets (t : Table ChangeLine) (xs : Lines) : Type 0 where
-  pub sound : Sound change_line_order blank_change_line t
+pub record Nets (t : ChangeTable) (xs : Lines) : Type 0 where
   pub entries : items t ≡ of_node 0 xs
   pub ascend : Ascends xs

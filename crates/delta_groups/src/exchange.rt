@@ -1,147 +1,93 @@
-ghost use Rattle.std.specs.Prelude.{◌≡◌, ℕ, ◌<◌, ◌≤◌, List, [], ◌∷◌, ◌++◌, length, get_or, ℤ, pos, negsuc, slice_index_or};
-ghost use Rattle.bag.specs.declared.lines.ChangeLine.{ChangeLine};
+ghost use Rattle.std.specs.Prelude.{◌≡◌, [], ◌∷◌, ◌++◌, length, ℤ, pos, negsuc};
 ghost use Rattle.bag.specs.Order.{Row};
-ghost use Rattle.bag.specs.Bag.{Line, Lines, collect, negated};
+ghost use Rattle.bag.specs.Bag.{Lines, collect, negated, every_line};
 ghost use Rattle.stock.specs.Holding.{shelf_of};
-ghost use Rattle.sheet.specs.Sheets.{of_node, OnSheet};
-ghost use Rattle.delta.specs.Walks.{Walked};
+ghost use Rattle.delta.specs.Writing.{SameTask, Written, Wrote};
 ghost use Rattle.delta_groups.specs.Groups.{RoomForGroup, one_of};
-ghost use Rattle.delta_groups.specs.Totals.{Ready, lacks_row, Totalled};
+ghost use Rattle.delta_groups.specs.Totals.{exchange_of, exchanges, fit_after, Ready, GroupsReady, Exchanged};
 
-use crate::group::{read_group, row_if_there};
+use crate::group::Grouping;
 use bag::lines::ChangeLine;
 use bag::row::{Row, compare_rows};
-use delta::walk::{Walk, append};
+use delta::fault::NodeFault;
+use delta::writer::ChangeWriter;
 use measure::measure::Measure;
 use std::cmp::Ordering;
 use stock::stock::Stock;
 
-// How far the walk over a total's groups has come: as the walk of any node, and whether a group was met that does not fit.
-#[derive(Clone, Copy)]
-pub struct TotalWalk {
-    pub walk: Walk,
-    pub wide: bool,
-}
-
-// Appends that an old row goes and a new row comes, in the order of rows; of equal rows nothing.
-fn append_exchange<S: Stock>(
-    stock: &S,
-    node: u8,
-    sheet: &mut [ChangeLine],
-    room: usize,
-    walk: Walk,
-    old: Option<Row>,
-    new: Option<Row>,
-) -> Walk
-    ensures long { length sheet.new ≡ length sheet.old }
-    ensures after { (es : List ChangeLine) (d : Lines) → S.Stock.sound stock.now → Walked (S.Stock.meaning stock.now) node room sheet.old walk.used walk.over es d → Walked (S.Stock.meaning stock.now) node room sheet.new result.used result.over es (d ++ collect (negated (one_of old) ++ one_of new)) }
-{
-    match (old, new) {
-        (None, None) => walk,
-        (Some(old), None) => append(stock, node, sheet, room, walk, &old, -1),
-        (None, Some(new)) => append(stock, node, sheet, room, walk, &new, 1),
-        (Some(old), Some(new)) => append_both(stock, node, sheet, room, walk, &old, &new),
-    }
-}
-
-// The same of two rows.
-fn append_both<S: Stock>(
-    stock: &S,
-    node: u8,
-    sheet: &mut [ChangeLine],
-    room: usize,
-    walk: Walk,
+// Writes that an old row goes and a new row comes, in the order of rows; of equal rows nothing.
+fn exchange_rows<S: Stock>(
+    writer: &mut ChangeWriter<S>,
     old: &Row,
     new: &Row,
-) -> Walk
-    ensures long { length sheet.new ≡ length sheet.old }
-    ensures after { (es : List ChangeLine) (d : Lines) → S.Stock.sound stock.now → Walked (S.Stock.meaning stock.now) node room sheet.old walk.used walk.over es d → Walked (S.Stock.meaning stock.now) node room sheet.new result.used result.over es (d ++ collect ((old.now, negsuc 0) ∷ (new.now, pos 1) ∷ [])) }
+) -> Result<(), NodeFault>
+    ensures same { SameTask writer.old writer.new }
+    ensures after { (d : Lines) → Written S.Stock.meaning writer.old d → Wrote S.Stock.meaning writer.old writer.new (d ++ collect ((old.now, negsuc 0) ∷ (new.now, pos 1) ∷ [])) result }
 {
     match compare_rows(old, new) {
         Ordering::Less => {
-            let first = append(stock, node, sheet, room, walk, old, -1);
-            append(stock, node, sheet, room, first, new, 1)
+            writer.append(old, -1)?;
+            writer.append(new, 1)
         }
-        Ordering::Equal => walk,
+        Ordering::Equal => Ok(()),
         Ordering::Greater => {
-            let first = append(stock, node, sheet, room, walk, new, 1);
-            append(stock, node, sheet, room, first, old, -1)
+            writer.append(new, 1)?;
+            writer.append(old, -1)
         }
     }
 }
 
-// Whether there are copies, but no row that shows them.
-fn lacks_row(copies: i32, row: Option<Row>) -> bool
-    ensures { result ≡ lacks_row copies row }
+// The same where there may be no old or no new row.
+fn exchange_if_there<S: Stock>(
+    writer: &mut ChangeWriter<S>,
+    old: Option<Row>,
+    new: Option<Row>,
+) -> Result<(), NodeFault>
+    ensures same { SameTask writer.old writer.new }
+    ensures after { (d : Lines) → Written S.Stock.meaning writer.old d → Wrote S.Stock.meaning writer.old writer.new (d ++ collect (negated (one_of old) ++ one_of new)) result }
 {
-    match row {
-        Some(_) => false,
-        None => copies != 0,
+    match (old, new) {
+        (None, None) => Ok(()),
+        (Some(old), None) => writer.append(&old, -1),
+        (None, Some(new)) => writer.append(&new, 1),
+        (Some(old), Some(new)) => exchange_rows(writer, &old, &new),
     }
 }
 
-// Exchanges the rows of one group, to whose copies the change adds `net` and to whose value `worth`.
+// Exchanges the rows of one group, to whose copies the change adds the line's number and to whose value `worth`. A group that has
+// copies then, but no row, has a value that does not fit.
 fn exchange_group<S: Stock, M: Measure>(
-    stock: &S,
-    measure: &M,
-    node: u8,
-    width: u8,
-    group: &Row,
-    net: i32,
+    writer: &mut ChangeWriter<S>,
+    grouping: &Grouping<M>,
+    group: &ChangeLine,
     worth: M::Value,
-    sheet: &mut [ChangeLine],
-    room: usize,
-    walk: TotalWalk,
-) -> TotalWalk
-    ensures long { length sheet.new ≡ length sheet.old }
-    ensures after { (es : List ChangeLine) (xs : Lines) (delta : Row → ℤ × M.Value) → S.Stock.sound stock.now → RoomForGroup M.Measure.model width → Ready M.Measure.model width (shelf_of (S.Stock.meaning stock.now) node) delta group.now → delta group.now ≡ (net, worth) → Totalled M.Measure.model width delta (S.Stock.meaning stock.now) node room sheet.old walk.walk.used walk.walk.over walk.wide es xs → Totalled M.Measure.model width delta (S.Stock.meaning stock.now) node room sheet.new result.walk.used result.walk.over result.wide es (xs ++ ((group.now, net) ∷ [])) }
+) -> Result<(), NodeFault>
+    ensures same { SameTask writer.old writer.new }
+    ensures after { (d : Lines) (delta : Row → ℤ × M.Value) → RoomForGroup M.Measure.model (length grouping.now.columns.now) → Ready M.Measure.model (length grouping.now.columns.now) (shelf_of (S.Stock.meaning writer.old.stock.now) writer.old.node) delta group.now.row → delta group.now.row ≡ (group.now.change, worth) → Written S.Stock.meaning writer.old d → Exchanged S.Stock.meaning writer.old writer.new (d ++ exchange_of M.Measure.model (length grouping.now.columns.now) (shelf_of (S.Stock.meaning writer.old.stock.now) writer.old.node) delta group.now.row) (fit_after M.Measure.model (length grouping.now.columns.now) (shelf_of (S.Stock.meaning writer.old.stock.now) writer.old.node) delta group.now.row group.now.change) result }
 {
-    let (copies, value) = read_group(stock, measure, node, group, width);
-    let old = row_if_there(measure, group, width, copies, value);
-    let new_copies = copies.saturating_add(net);
-    let new_value = measure.plus(value, worth);
-    let new = row_if_there(measure, group, width, new_copies, new_value);
-    let wide = walk.wide | lacks_row(new_copies, new);
-    TotalWalk {
-        walk: append_exchange(stock, node, sheet, room, walk.walk, old, new),
-        wide,
+    let (copies, value) = grouping.read_group(writer.stock(), writer.node(), &group.row);
+    let old = grouping.row_if_there(&group.row, copies, value);
+    let new_copies = copies.saturating_add(group.change);
+    let new_value = grouping.measure.plus(value, worth);
+    let new = grouping.row_if_there(&group.row, new_copies, new_value);
+    if new_copies != 0 && new.is_none() {
+        return Err(NodeFault::Wide);
     }
+    exchange_if_there(writer, old, new)
 }
 
 // Exchanges the rows of all groups that the change touches.
 pub(crate) fn exchange_groups<S: Stock, M: Measure>(
-    stock: &S,
-    measure: &M,
-    node: u8,
-    width: u8,
+    writer: &mut ChangeWriter<S>,
+    grouping: &Grouping<M>,
     groups: &[ChangeLine],
     values: &[M::Value],
-    sheet: &mut [ChangeLine],
-    room: usize,
-    used: usize,
-) -> TotalWalk
-    ensures long { length sheet.new ≡ length sheet.old }
-    ensures after { (es : List ChangeLine) (xs : Lines) (delta : Row → ℤ × M.Value) → S.Stock.sound stock.now → RoomForGroup M.Measure.model width → groups.now ≡ of_node 0 xs → length xs ≤ length values.now → ((i : ℕ) (e : Line) (z : M.Value) → i < length xs → delta (get_or xs i e).0 ≡ ((get_or xs i e).1, slice_index_or values.now i z)) → ((i : ℕ) (e : Line) → i < length xs → Ready M.Measure.model width (shelf_of (S.Stock.meaning stock.now) node) delta (get_or xs i e).0) → OnSheet room sheet.old used es → Totalled M.Measure.model width delta (S.Stock.meaning stock.now) node room sheet.new result.walk.used result.walk.over result.wide es xs }
+) -> Result<(), NodeFault>
+    ensures same { SameTask writer.old writer.new }
+    ensures after { (xs : Lines) (delta : Row → ℤ × M.Value) → RoomForGroup M.Measure.model (length grouping.now.columns.now) → GroupsReady M.Measure.model (length grouping.now.columns.now) (shelf_of (S.Stock.meaning writer.old.stock.now) writer.old.node) delta xs groups.now values.now → Written S.Stock.meaning writer.old [] → Exchanged S.Stock.meaning writer.old writer.new (exchanges M.Measure.model (length grouping.now.columns.now) (shelf_of (S.Stock.meaning writer.old.stock.now) writer.old.node) delta xs) (every_line (fit_after M.Measure.model (length grouping.now.columns.now) (shelf_of (S.Stock.meaning writer.old.stock.now) writer.old.node) delta) xs) result }
 {
-    let mut walk = TotalWalk {
-        walk: Walk { used, over: false },
-        wide: false,
-    };
-    for i in 0..groups.len().min(values.len()) {
-        let line = groups[i];
-        let row = line.row;
-        walk = exchange_group(
-            stock,
-            measure,
-            node,
-            width,
-            &row,
-            line.change,
-            values[i],
-            sheet,
-            room,
-            walk,
-        );
+    for (group, worth) in groups.iter().zip(values) {
+        exchange_group(writer, grouping, group, *worth)?;
     }
-    walk
+    Ok(())
 }

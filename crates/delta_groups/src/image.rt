@@ -1,28 +1,21 @@
-ghost use Rattle.std.specs.Prelude.{◌≡◌, ◌<◌, take};
-ghost use Rattle.bag.specs.Columns.{column_of, listed};
+ghost use Rattle.std.specs.Prelude.{◌≡◌};
+ghost use Rattle.bag.specs.Columns.{column_of, columns_at, listed};
 
 use bag::row::Row;
 use measure::columns::column_of;
 
-// Column i of the row that `image` makes.
-fn column_of_image(row: &Row, columns: &[u8; 8], count: u8, i: usize) -> i32
-    requires { i < 8 }
-    ensures { result ≡ column_of (listed (take count columns.now) row.now) i }
+// Column `place` of the row that `image` makes.
+fn column_of_image(row: &Row, columns: &[u8], place: usize) -> i32
+    ensures { result ≡ column_of (columns_at columns.now row.now) place }
 {
-    if i < count as usize {
-        column_of(row, columns[i] as usize)
-    } else {
-        0
-    }
+    columns
+        .get(place)
+        .map_or(0, |column| column_of(row, *column as usize))
 }
 
-// The row of the first `count` listed columns, with 0 behind them.
-pub fn image(row: &Row, columns: &[u8; 8], count: u8) -> Row
-    ensures { result ≡ listed (take count columns.now) row.now }
+// The row of the listed columns, as far as there is room, with 0 behind them.
+pub fn image(row: &Row, columns: &[u8]) -> Row
+    ensures { result ≡ listed columns.now row.now }
 {
-    let mut image = [0; 8];
-    for i in 0..8 {
-        image[i] = column_of_image(row, columns, count, i);
-    }
-    image
+    std::array::from_fn(|place| column_of_image(row, columns, place))
 }

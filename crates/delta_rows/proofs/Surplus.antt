@@ -4,18 +4,35 @@
 --     surplus_change     the change of a row, as code computes it from counts
 --     after_is           the count of a row after its change, as code computes it
 --     counts_apart       one count less another, computed without loss
-use Rattle.std.proofs.Common.{◌≡◌, ℕ, suc, ◌-◌, ◌<◌, Bool, true, false, ltb, ℤ, pos, negsuc, ◌+ℤ◌, ◌-ℤ◌, sym, refl, ap, ◌∙◌, subst, ap₂, arith, w32, SFits, to_z, of_z, ltb-false, ltb-true}
+--     less_written       the number that code writes for a turn is the change of its row
+--     less_changed       the change of a less is written
+use Rattle.std.proofs.Common.{◌≡◌, ℕ, suc, ◌-◌, ◌<◌, Bool, true, false, List, Result, ltb, ℤ, pos, negsuc, ◌+ℤ◌, ◌-ℤ◌, sym, refl, ap, ◌∙◌, subst, ap₂, arith, w32, SFits, to_z, of_z, ltb-false, ltb-true}
+use Rattle.std.specs.List.{AllByRecursion}
 use Rattle.std.proofs.lemmas.Int.{ints, to_z-of_z}
+use Rattle.bag.specs.declared.lines.ChangeLine.{ChangeLine}
 use Rattle.bag.specs.Order.{Row}
 use Rattle.bag.specs.Bag.{Lines, count}
 use Rattle.bag.specs.Operators.{at_least_zero, monus}
 use Rattle.bag.specs.Changes.{Changes}
 use Rattle.bag.specs.Propagation.{change_of_less}
+use Rattle.bag.proofs.ChangeLaws.{canonical_change_of_less}
 use Rattle.bag.proofs.OperatorBags.{count_low}
-use Rattle.bag.proofs.OperatorLaws.{less_changes}
+use Rattle.bag.proofs.OperatorLaws.{less_changes, less_follows_change, operators_give_bags}
 use Rattle.bag.proofs.RowByRow.{count_monus}
-use Rattle.delta_rows.specs.Sides.{IsCount}
-use Rattle.delta_rows.specs.Less.{less_at}
+use Rattle.stock.specs.Holding.{Holding, LawfulHolding, shelf_of}
+use Rattle.plan.specs.Afresh.{board}
+use Rattle.delta.specs.declared.fault.NodeFault.{NodeFault}
+use Rattle.delta.specs.declared.writer.ChangeWriter.{ChangeWriter}
+use Rattle.delta.specs.NodeChange.{Setting, LinesOf}
+use Rattle.delta.specs.Writing.{SameTask, Wrote}
+use Rattle.delta.specs.Changed.{NodeChange}
+use Rattle.delta.proofs.Finished.{finished}
+use Rattle.delta_rows.specs.declared.merge.Turn.{Turn}
+use Rattle.delta_rows.specs.Merges.{turns}
+use Rattle.delta_rows.specs.Less.{IsCount, less_at}
+use Rattle.delta_rows.proofs.Merged.{Fitting}
+use Rattle.delta_rows.proofs.Merging.{turns_written}
+use Rattle.delta_rows.proofs.Sided.{sides_fit, sides_merged}
 
 pub less_none : (l r : Lines) (q : Row) → less_at l r q (pos 0) (pos 0) ≡ pos 0
 less_none l r q = same (count l q) (count r q)
@@ -63,3 +80,29 @@ pub after_is : (n k : ℕ) (z m : ℤ) → SFits w32 m → pos n ≡ z → (IsCo
 after_is n k z m f e after is =
     let same : pos n +ℤ to_z w32 (of_z w32 m) ≡ z +ℤ m = ap₂ (λ (a b : ℤ). a +ℤ b) e (to_z-of_z w32 m f) in
     after (subst IsCount (sym same) is) ∙ same
+
+-- `seen` is the stock as code reads it, which is the one of the writer
+pub less_written : (h seen : Holding) (l r : ℕ) (t : Turn) (s : ℤ) → seen ≡ h → SFits w32 s →
+    (IsCount (count (shelf_of seen l) t.row +ℤ t.left) → IsCount (count (shelf_of seen r) t.row +ℤ t.right) → s ≡ less_at (shelf_of seen l) (shelf_of seen r) t.row t.left t.right) →
+    Fitting (shelf_of h l) (shelf_of h r) t → to_z w32 (of_z w32 s) ≡ less_at (shelf_of h l) (shelf_of h r) t.row t.left t.right
+less_written h seen l r t s same f is fit =
+    let here = subst (λ k. IsCount (count (shelf_of k l) t.row +ℤ t.left) → IsCount (count (shelf_of k r) t.row +ℤ t.right) → s ≡ less_at (shelf_of k l) (shelf_of k r) t.row t.left t.right) same is in
+    to_z-of_z w32 s f ∙ here fit.new_left fit.new_right
+
+pub less_changed : {S : Type 0} (meaning : S → Holding) (v w : ChangeWriter S) → SameTask v w → LawfulHolding (meaning v.stock.now) → (ws : List ℕ) (l r : ℕ) (ds news : List Lines) → l < v.node → r < v.node →
+    Setting (meaning v.stock.now) ws v.node (monus (shelf_of (meaning v.stock.now) l) (shelf_of (meaning v.stock.now) r)) ds news → (left right : List ChangeLine) → LinesOf l (board ds l) left → LinesOf r (board ds r) right →
+    (answer : Result (Unit {0}) NodeFault) →
+    (AllByRecursion (Fitting (shelf_of (meaning v.stock.now) l) (shelf_of (meaning v.stock.now) r)) (turns left right) →
+    Wrote meaning v w (turns_written (less_at (shelf_of (meaning v.stock.now) l) (shelf_of (meaning v.stock.now) r)) (turns left right)) answer) → NodeChange meaning v w (monus (board news l) (board news r)) true answer
+less_changed meaning v w same law ws l r ds news low-l low-r at left right is-l is-r answer wrote =
+    let h = meaning v.stock.now in
+    let a = shelf_of h l in
+    let b = shelf_of h r in
+    let lower-l = (at.lower l low-l).changes in
+    let lower-r = (at.lower r low-r).changes in
+    let out = change_of_less a (board ds l) b (board ds r) in
+    let are =
+    sides_merged h law ws v.node (monus a b) ds news at l r low-l low-r left right is-l is-r (less_at a b) (less_none a b) out (canonical_change_of_less a (board ds l) b (board ds r))
+    (less_counts a (board ds l) (board news l) b (board ds r) (board news r) lower-l lower-r) in
+    finished meaning v w same law ws (monus a b) ds news at (monus (board news l) (board news r)) (operators_give_bags.of_less (board news l) (board news r) lower-l.new_bag lower-r.new_bag) out
+    (less_follows_change a (board ds l) (board news l) b (board ds r) (board news r) lower-l lower-r) true refl answer (subst (λ d. Wrote meaning v w d answer) are (wrote (sides_fit h law ws v.node (monus a b) ds news at l r low-l low-r left right is-l is-r)))

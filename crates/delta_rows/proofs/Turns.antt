@@ -1,53 +1,61 @@
--- The next row of two runs, taken from both sides. Assumes nothing.
---     side_less, side_equal, side_greater      what the side of the next row says of the places and of the rows there
---     taken_first      the row of the line that is next in a run
---     taken_none       a row before the line that is next, or behind the last
-use Rattle.std.proofs.Common.{◌≡◌, ℕ, ◌+◌, ◌<◌, ◌≤◌, Bool, true, false, ltb, ◌⊎◌, [], ◌∷◌, length, get_or, drop, ℤ, pos, Some, Ordering, Less, Equal, Greater, sym, refl, ap, ◌∙◌, subst, ap₂, inl, inr, arith, ltb-false, ltb-true}
-use Rattle.std.proofs.lemmas.List.{drop_all, drop_more}
+-- The next of the rows of two changes. Assumes nothing.
+--     at_none                      neither has a line left
+--     at_left, at_right            only one has
+--     at_less, at_equal, at_greater      both have, and the left one's comes first, or neither, or the right one's
+--     taken                        the same of the parts of a tuple
+use Rattle.std.proofs.Common.{◌≡◌, List, [], ◌∷◌, length, Ordering, Less, Equal, Greater, Bor, sym, refl, ap, ◌∙◌, ap₂}
 use Rattle.bag.specs.declared.lines.ChangeLine.{ChangeLine}
-use Rattle.bag.specs.Order.{Row, row_order}
-use Rattle.bag.specs.Bag.{Line, Lines, Before}
-use Rattle.sheet.specs.Sheets.{change_line}
-use Rattle.delta_rows.specs.Merges.{next_side, Taken}
+use Rattle.bag.specs.Order.{row_order}
+use Rattle.delta_rows.specs.declared.merge.Turn.{Turn}
+use Rattle.delta_rows.specs.Merges.{left_turn, right_turn, both_turn, at_order, turns_from, turns}
 
-pub no_line : Line
-no_line = ([], pos 0)
+none_is : (a : List ChangeLine) → length a ≡ 0 → a ≡ []
+none_is [] e = refl
+none_is (x ∷ a) e = absurd (let z : ⊥ = cc in z)
 
-module _ (i m j n : ℕ) (o : Ordering) where
-  pub side_less : next_side (ltb i m) (ltb j n) o ≡ Some Less → (i < m) × ((n ≤ j) ⊎ ((j < n) × (o ≡ Less)))
-  side_less e = by (ltb i m) (ltb j n) refl refl e
-    where
-      by : (a b : Bool) → ltb i m ≡ a → ltb j n ≡ b → next_side a b o ≡ Some Less → (i < m) × ((n ≤ j) ⊎ ((j < n) × (o ≡ Less)))
-      by true true x y e = (omega (arith, ltb-true), inr (omega (arith, ltb-true), cc))
-      by true false x y e = (omega (arith, ltb-true), inl (omega (arith, ltb-false)))
-      by false true x y e = let z : ◌≡◌ {A = ℕ} 0 1 = cc in absurd (omega arith)
-      by false false x y e = let z : ◌≡◌ {A = ℕ} 0 1 = cc in absurd (omega arith)
+turns_none : turns [] [] ≡ []
+unfolding turns
+turns_none = refl
 
-  pub side_equal : next_side (ltb i m) (ltb j n) o ≡ Some Equal → (i < m) × (j < n) × (o ≡ Equal)
-  side_equal e = by (ltb i m) (ltb j n) refl refl e
-    where
-      by : (a b : Bool) → ltb i m ≡ a → ltb j n ≡ b → next_side a b o ≡ Some Equal → (i < m) × (j < n) × (o ≡ Equal)
-      by true true x y e = (omega (arith, ltb-true), omega (arith, ltb-true), cc)
-      by true false x y e = let z : ◌≡◌ {A = ℕ} 0 1 = cc in absurd (omega arith)
-      by false true x y e = let z : ◌≡◌ {A = ℕ} 0 1 = cc in absurd (omega arith)
-      by false false x y e = let z : ◌≡◌ {A = ℕ} 0 1 = cc in absurd (omega arith)
+turns_left : (l : ChangeLine) (xs : List ChangeLine) → turns (l ∷ xs) [] ≡ left_turn l ∷ turns xs []
+unfolding turns turns_from
+turns_left l xs = refl
 
-  pub side_greater : next_side (ltb i m) (ltb j n) o ≡ Some Greater → (j < n) × ((m ≤ i) ⊎ ((i < m) × (o ≡ Greater)))
-  side_greater e = by (ltb i m) (ltb j n) refl refl e
-    where
-      by : (a b : Bool) → ltb i m ≡ a → ltb j n ≡ b → next_side a b o ≡ Some Greater → (j < n) × ((m ≤ i) ⊎ ((i < m) × (o ≡ Greater)))
-      by true true x y e = (omega (arith, ltb-true), inr (omega (arith, ltb-true), cc))
-      by true false x y e = let z : ◌≡◌ {A = ℕ} 0 1 = cc in absurd (omega arith)
-      by false true x y e = (omega (arith, ltb-true), inl (omega (arith, ltb-false)))
-      by false false x y e = let z : ◌≡◌ {A = ℕ} 0 1 = cc in absurd (omega arith)
+turns_right : (r : ChangeLine) (ys : List ChangeLine) → turns [] (r ∷ ys) ≡ right_turn r ∷ turns [] ys
+unfolding turns
+turns_right r ys = refl
 
-module _ (d : Lines) (i k : ℕ) (line : ChangeLine) where
-  pub taken_first : (q : Row) (n : ℤ) → i < length d → line ≡ change_line k (get_or d i no_line) → q ≡ line.row → n ≡ line.change → Taken q (drop i d) n (drop (i + 1) d)
-  taken_first q n h is same copies =
-      let first : ◌≡◌ {A = Line} (q, n) (get_or d i no_line) = ap₂ {C = Line} (λ a b. (a, b)) (same ∙ ap (λ (x : ChangeLine). x.row) is) (copies ∙ ap (λ (x : ChangeLine). x.change) is) in
-      inl (drop_more d i no_line h ∙ ap (λ (e : Line). e ∷ drop (i + 1) d) (sym first))
+turns_both : (l r : ChangeLine) (xs ys : List ChangeLine) →
+    turns (l ∷ xs) (r ∷ ys) ≡ at_order (row_order l.row r.row) (left_turn l ∷ turns xs (r ∷ ys)) (both_turn l r ∷ turns xs ys) (right_turn r ∷ turns (l ∷ xs) ys)
+unfolding turns turns_from
+turns_both l r xs ys = refl
 
-  pub taken_none : (q : Row) → (i < length d → line ≡ change_line k (get_or d i no_line)) → (length d ≤ i) ⊎ ((i < length d) × (row_order q line.row ≡ Less)) → Taken q (drop i d) (pos 0) (drop i d)
-  taken_none q is (inl h) = inr (subst (Before q) (sym (drop_all i d h)) tt, refl, refl)
-  taken_none q is (inr h) =
-      inr (subst (Before q) (sym (drop_more d i no_line h.0)) (sym (ap (λ (x : ChangeLine). row_order q x.row) (is h.0)) ∙ h.1), refl, refl)
+module _ (a b : List ChangeLine) where
+  pub at_none : length a ≡ 0 → length b ≡ 0 → turns a b ≡ []
+  at_none e f = ap₂ turns (none_is a e) (none_is b f) ∙ turns_none
+
+  module _ (l : ChangeLine) (xs : List ChangeLine) (e : a ≡ l ∷ xs) where
+    pub at_left : length b ≡ 0 → turns a b ≡ left_turn l ∷ turns xs b
+    at_left f = ap₂ turns e (none_is b f) ∙ turns_left l xs ∙ ap (λ t. left_turn l ∷ turns xs t) (sym (none_is b f))
+
+    module _ (r : ChangeLine) (ys : List ChangeLine) (f : b ≡ r ∷ ys) where
+      at_both : (o : Ordering) → row_order l.row r.row ≡ o → turns a b ≡ at_order o (left_turn l ∷ turns xs b) (both_turn l r ∷ turns xs ys) (right_turn r ∷ turns a ys)
+      at_both o is =
+          ap₂ turns e f ∙ turns_both l r xs ys
+          ∙ ap (λ t. at_order t (left_turn l ∷ turns xs (r ∷ ys)) (both_turn l r ∷ turns xs ys) (right_turn r ∷ turns (l ∷ xs) ys)) is
+          ∙ ap₂ (λ s t. at_order o (left_turn l ∷ turns xs s) (both_turn l r ∷ turns xs ys) (right_turn r ∷ turns t ys)) (sym f) (sym e)
+
+      pub at_less : row_order l.row r.row ≡ Less → turns a b ≡ left_turn l ∷ turns xs b
+      at_less is = at_both Less is
+
+      pub at_equal : row_order l.row r.row ≡ Equal → turns a b ≡ both_turn l r ∷ turns xs ys
+      at_equal is = at_both Equal is
+
+      pub at_greater : row_order l.row r.row ≡ Greater → turns a b ≡ right_turn r ∷ turns a ys
+      at_greater is = at_both Greater is
+
+  pub at_right : length a ≡ 0 → (r : ChangeLine) (ys : List ChangeLine) → b ≡ r ∷ ys → turns a b ≡ right_turn r ∷ turns a ys
+  at_right e r ys f = ap₂ turns (none_is a e) f ∙ turns_right r ys ∙ ap (λ t. right_turn r ∷ turns t ys) (sym (none_is a e))
+
+  pub taken : (q p : Turn) (x y : Bor (List ChangeLine)) (t : Turn × Bor (List ChangeLine) × Bor (List ChangeLine)) → t ≡ (q, x, y) → q ≡ p → turns a b ≡ p ∷ turns x.now y.now → turns a b ≡ t.0 ∷ turns t.1.now t.2.now
+  taken q p x y t e f is = is ∙ ap (λ s. s ∷ turns x.now y.now) (sym f) ∙ sym (ap (λ (s : Turn × Bor (List ChangeLine) × Bor (List ChangeLine)). s.0 ∷ turns s.1.now s.2.now) e)

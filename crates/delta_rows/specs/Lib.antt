@@ -1,4 +1,3 @@
 pub mod Keep
 pub mod Merges
-pub mod Sides
 pub mod Less

@@ -1,26 +1,33 @@
 -- Two changes merged row by row, as code goes over them. It describes how code works, not what a change means. Assumes nothing.
---     next_side left right o      which side has the next row: the left at `Less`, the right at `Greater`, both at `Equal`, none if both
---                                 are at their end; `left` and `right` say whether a side has a line left, o how these lines compare
---     to_go left right i j        how many lines of two runs are left behind the first i of the left and the first j of the right
---     Taken q xs n rest           the row q is taken from xs: it is the first, n copies of it, and `rest` is behind it; or it comes
---                                 before all of xs, which stays, and n is 0
---     Turned q m xs xs' n ys ys'  the same of two lists at once
-use Rattle.std.specs.Prelude.{◌≡◌, ℕ, ◌+◌, ◌-◌, Bool, cond, ◌⊎◌, ◌∷◌, ℤ, pos, Some, None, Option}
-use Rattle.std.specs.declared.cmp.Ordering.TheVariants.{Less, Greater}
+--     left_turn l, right_turn r, both_turn l r      a row of which the left side has the line l, the right side r, or both have one
+--     at_order o a b c            a at `Less`, b at `Equal`, c at `Greater`
+--     turns xs ys                 the rows of two lists of lines, whose rows ascend, in order, each with its change on either side
+use Rattle.std.specs.Prelude.{List, [], ◌∷◌, map, pos}
+use Rattle.std.specs.declared.cmp.Ordering.TheVariants.{Less, Equal, Greater}
 use Rattle.std.specs.declared.cmp.Ordering.{Ordering}
-use Rattle.bag.specs.Order.{Row}
-use Rattle.bag.specs.Bag.{Lines, Before}
-use Rattle.sheet.specs.declared.run.Run.{Run}
+use Rattle.bag.specs.declared.lines.ChangeLine.{ChangeLine}
+use Rattle.bag.specs.Order.{row_order}
+use Rattle.delta_rows.specs.declared.merge.Turn.{Turn}
 
-abbrev pub next_side : Bool → Bool → Ordering → Option Ordering
-next_side left right o = cond left (cond right (Some o) (Some Less)) (cond right (Some Greater) None)
+abbrev pub left_turn : ChangeLine → Turn
+left_turn l = record { row = l.row; left = l.change; right = pos 0 }
 
-abbrev pub to_go : Run → Run → ℕ → ℕ → ℕ
-to_go left right i j = ((left.to - left.from) - i) + ((right.to - right.from) - j)
+abbrev pub right_turn : ChangeLine → Turn
+right_turn r = record { row = r.row; left = pos 0; right = r.change }
 
-abbrev pub Taken : Row → Lines → ℤ → Lines → Type 0
-Taken q xs n rest = (xs ≡ (q, n) ∷ rest) ⊎ (Before q xs × (n ≡ pos 0) × (rest ≡ xs))
+abbrev pub both_turn : ChangeLine → ChangeLine → Turn
+both_turn l r = record { row = l.row; left = l.change; right = r.change }
 
-pub record Turned (q : Row) (m : ℤ) (xs xs' : Lines) (n : ℤ) (ys ys' : Lines) : Type 0 where
-  pub left : Taken q xs m xs'
-  pub right : Taken q ys n ys'
+abbrev pub at_order : {A : Type 0} → Ordering → A → A → A → A
+at_order Less a b c = a
+at_order Equal a b c = b
+at_order Greater a b c = c
+
+-- the line l first on the left, and `more` for what is behind it
+unfoldable pub turns_from : ChangeLine → (List ChangeLine → List Turn) → List ChangeLine → List Turn
+turns_from l more [] = left_turn l ∷ more []
+turns_from l more (r ∷ ys) = at_order (row_order l.row r.row) (left_turn l ∷ more (r ∷ ys)) (both_turn l r ∷ more ys) (right_turn r ∷ turns_from l more ys)
+
+unfoldable pub turns : List ChangeLine → List ChangeLine → List Turn
+turns [] ys = map right_turn ys
+turns (l ∷ xs) ys = turns_from l (turns xs) ys

@@ -1,34 +1,37 @@
-ghost use Rattle.std.specs.Prelude.{◌≡◌, ℕ, ◌<◌, ◌≤◌, true, List, length, pos, ◌+ℤ◌};
-ghost use Rattle.bag.specs.declared.lines.ChangeLine.{ChangeLine};
+ghost use Rattle.std.specs.Prelude.{◌≡◌, ℕ, ◌<◌, true, List, [], pos, ◌+ℤ◌};
 ghost use Rattle.bag.specs.Bag.{Lines, count};
 ghost use Rattle.bag.specs.Operators.{monus};
-ghost use Rattle.bag.specs.Changes.{Changes};
-ghost use Rattle.bag.specs.Propagation.{change_of_less};
 ghost use Rattle.stock.specs.Holding.{shelf_of};
 ghost use Rattle.plan.specs.Afresh.{board};
-ghost use Rattle.sheet.specs.Sheets.{flattened, OnSheet, RunOf};
-ghost use Rattle.delta.specs.NodeChange.{Setting, Filled, NodeChange};
-ghost use Rattle.delta.specs.Walks.{Walked};
-ghost use Rattle.delta_rows.specs.Sides.{IsCount, Side};
-ghost use Rattle.delta_rows.specs.Less.{less_at};
+ghost use Rattle.delta.specs.NodeChange.{Setting, LinesOf};
+ghost use Rattle.delta.specs.Writing.{SameTask, Written};
+ghost use Rattle.delta.specs.Changed.{NodeChange};
+ghost use Rattle.delta_rows.specs.Less.{IsCount, less_at};
 
-use crate::merge::{Places, Turn, next_turn};
+use crate::merge::{Merge, Turn};
 use bag::lines::ChangeLine;
 use delta::fault::NodeFault;
-use delta::walk::{Walk, append, finish};
-use sheet::run::Run;
+use delta::writer::ChangeWriter;
 use stock::stock::Stock;
+
+// One side of a less: a lower node and the lines of its change. It needs no width, as a pair's `Side` does: no row is made of two.
+#[derive(Clone, Copy, PartialEq, Eq, Debug)]
+pub struct Side<'a> {
+    pub node: u8,
+    pub lines: &'a [ChangeLine],
+}
 
 // The count of a row after its change. Both are of a node below, so the sum is a count and is not cut off.
 fn count_after(old: u16, change: i32) -> u16
     ensures { IsCount (pos old +ℤ change) → pos result ≡ pos old +ℤ change }
 {
-    (old as i64 + change as i64).max(0).min(65535) as u16
+    (old as i64 + change as i64).clamp(0, 65535) as u16
 }
 
-// By how much a row of a less changes: from the old and the new counts of both sides, as a surplus does not follow from changes alone.
+// By how much a row of a less over the nodes l and r changes: from the old and the new counts of both, as a surplus does not follow
+// from changes alone.
 fn change_of_row<S: Stock>(stock: &S, l: u8, r: u8, turn: &Turn) -> i32
-    ensures { S.Stock.sound stock.now → IsCount (count (shelf_of (S.Stock.meaning stock.now) l) turn.now.row +ℤ turn.now.left) → IsCount (count (shelf_of (S.Stock.meaning stock.now) r) turn.now.row +ℤ turn.now.right) → result ≡ less_at (shelf_of (S.Stock.meaning stock.now) l) (shelf_of (S.Stock.meaning stock.now) r) turn.now.row turn.now.left turn.now.right }
+    ensures { IsCount (count (shelf_of (S.Stock.meaning stock.now) l) turn.now.row +ℤ turn.now.left) → IsCount (count (shelf_of (S.Stock.meaning stock.now) r) turn.now.row +ℤ turn.now.right) → result ≡ less_at (shelf_of (S.Stock.meaning stock.now) l) (shelf_of (S.Stock.meaning stock.now) r) turn.now.row turn.now.left turn.now.right }
 {
     let left = stock.count(l, &turn.row);
     let right = stock.count(r, &turn.row);
@@ -37,45 +40,18 @@ fn change_of_row<S: Stock>(stock: &S, l: u8, r: u8, turn: &Turn) -> i32
     new as i32 - old as i32
 }
 
-// Appends each row that either node below changes, with what the row of the less changes by.
-fn append_changes<S: Stock>(
-    stock: &S,
-    node: u8,
-    l: u8,
-    r: u8,
-    left: Run,
-    right: Run,
-    sheet: &mut [ChangeLine],
-    room: usize,
-    used: usize,
-) -> Walk
-    ensures long { length sheet.new ≡ length sheet.old }
-    ensures after { (es : List ChangeLine) (dl dr nl nr : Lines) → S.Stock.sound stock.now → OnSheet room sheet.old used es → length es ≤ room → Side (S.Stock.meaning stock.now) es left l dl → Side (S.Stock.meaning stock.now) es right r dr → Changes (shelf_of (S.Stock.meaning stock.now) l) dl nl → Changes (shelf_of (S.Stock.meaning stock.now) r) dr nr → Walked (S.Stock.meaning stock.now) node room sheet.new result.used result.over es (change_of_less (shelf_of (S.Stock.meaning stock.now) l) dl (shelf_of (S.Stock.meaning stock.now) r) dr) }
-{
-    let mut walk = Walk { used, over: false };
-    let mut at = Places { left: 0, right: 0 };
-    while let Some(turn) = next_turn(&left, &right, sheet, at) {
-        let change = change_of_row(stock, l, r, &turn);
-        walk = append(stock, node, sheet, room, walk, &turn.row, change);
-        at = turn.then;
-    }
-    walk
-}
-
-// Appends the change of a less over the nodes l and r below: at each row that either changes, its surplus after less before.
+// Writes the change of a less over two nodes below: at each row that either changes, its surplus after less before.
 pub fn change_of_less<S: Stock>(
-    stock: &S,
-    node: u8,
-    l: u8,
-    r: u8,
-    left: Run,
-    right: Run,
-    sheet: &mut [ChangeLine],
-    room: usize,
-    used: usize,
-) -> Result<usize, NodeFault>
-    ensures long { length sheet.new ≡ length sheet.old }
-    ensures changed { (ws : List ℕ) (ds news : List Lines) → S.Stock.sound stock.now → l < node → r < node → Setting (S.Stock.meaning stock.now) ws node (monus (shelf_of (S.Stock.meaning stock.now) l) (shelf_of (S.Stock.meaning stock.now) r)) ds news → Filled room sheet.old used ds → RunOf (flattened 0 ds) left.from left.to l (board ds l) → RunOf (flattened 0 ds) right.from right.to r (board ds r) → NodeChange (S.Stock.meaning stock.now) node (monus (board news l) (board news r)) true ds room sheet.new result }
+    writer: &mut ChangeWriter<S>,
+    left: &Side,
+    right: &Side,
+) -> Result<(), NodeFault>
+    ensures same { SameTask writer.old writer.new }
+    ensures changed { (ws : List ℕ) (ds news : List Lines) → left.now.node < writer.old.node → right.now.node < writer.old.node → Setting (S.Stock.meaning writer.old.stock.now) ws writer.old.node (monus (shelf_of (S.Stock.meaning writer.old.stock.now) left.now.node) (shelf_of (S.Stock.meaning writer.old.stock.now) right.now.node)) ds news → Written S.Stock.meaning writer.old [] → LinesOf left.now.node (board ds left.now.node) left.now.lines.now → LinesOf right.now.node (board ds right.now.node) right.now.lines.now → NodeChange S.Stock.meaning writer.old writer.new (monus (board news left.now.node) (board news right.now.node)) true result }
 {
-    finish(append_changes(stock, node, l, r, left, right, sheet, room, used))
+    for turn in Merge::new(left.lines, right.lines) {
+        let change = change_of_row(writer.stock(), left.node, right.node, &turn);
+        writer.append(&turn.row, change)?;
+    }
+    Ok(())
 }

@@ -10,12 +10,11 @@ use Rattle.std.specs.List.{AllByRecursion}
 use Rattle.std.proofs.lemmas.List.{length-map, length-append, map-append, append-nil}
 use Rattle.std.proofs.ByRecursion.{All-push, All-weaker}
 use Rattle.std.proofs.lemmas.Int.{ints}
-use Rattle.bag.specs.declared.lines.ChangeLine.{ChangeLine}
 use Rattle.bag.specs.Order.{Row, row_order}
 use Rattle.bag.specs.Bag.{if_equal, copies_at, count, add_copies, collect}
 use Rattle.bag.specs.Refusal.{Refusal}
 use Rattle.bag.specs.Integers.{count_collect}
-use Rattle.table.specs.declared.table.Table.{Table}
+use Rattle.table.specs.LineTables.{ChangeTable}
 use Rattle.table.specs.Tables.{items, capacity, SameRun}
 use Rattle.message.specs.declared.record.Record.{Record}
 use Rattle.message.specs.Reading.{ends, refused}
@@ -23,7 +22,7 @@ use Rattle.message.proofs.Readings.{onward, Read}
 use Rattle.plan.specs.declared.node.Node.{Node}
 use Rattle.settling.specs.Keys.{key, keyed}
 use Rattle.nets.specs.Nets.{signed_copies, nets_of}
-use Rattle.nets.specs.NetTable.{keyed_movement, changes, Kept, Addable, Added}
+use Rattle.nets.specs.NetTable.{keyed_movement, changes, Addable, Added}
 use Rattle.nets.specs.GatherRefusal.{Told, of_message, table_refusal}
 use Rattle.nets.specs.Gathered.{of_base, behind, movements_in, movements_until, gathered, gathered_until}
 use Rattle.nets.proofs.BaseRows.{base_low}
@@ -82,26 +81,21 @@ fits_within n a b v w l =
     let t = w.1 in
     omega (arith, ints)
 
-pub record Empty (s : Table ChangeLine) : Type 0 where
-  pub kept : Kept s
+pub record Empty (s : ChangeTable) : Type 0 where
   pub none : items s ≡ []
   pub long : 1024 ≤ capacity s
 
-pub record Netted (m : List Record) (t : Table ChangeLine) : Type 0 where
-  pub kept : Kept t
-  pub changed : changes t ≡ collect (map keyed_movement m)
-
 module _ (nodes : List Node) (bytes : List ℕ) where
-  pub record Reached (s t : Table ChangeLine) (at seen : ℕ) : Type 0 where
+  pub record Reached (s t : ChangeTable) (at seen : ℕ) : Type 0 where
     pub movements : List Record
     pub many : length movements ≡ seen
     pub counted : AllByRecursion Counted movements
     pub based : AllByRecursion (λ r. of_base nodes r ≡ true) movements
     pub answer : prefixed movements (movements_in nodes (onward bytes at seen)) ≡ gathered nodes bytes
     pub until : movements ++ movements_until nodes (onward bytes at seen) ≡ gathered_until nodes bytes
-    pub nets : Empty s → Netted movements t
+    pub nets : Empty s → changes t ≡ collect (map keyed_movement movements)
 
-  pub reached_first : (s : Table ChangeLine) → Reached s s 0 0
+  pub reached_first : (s : ChangeTable) → Reached s s 0 0
   unfolding collect
   reached_first s =
       record {
@@ -111,29 +105,28 @@ module _ (nodes : List Node) (bytes : List ℕ) where
         based = tt;
         answer = prefixed_none (gathered nodes bytes);
         until = refl;
-        nets = λ e. record { kept = e.kept; changed = ap (map keyed) e.none };
+        nets = λ e. ap (map keyed) e.none;
       }
 
-  module _ (s t : Table ChangeLine) (at seen : ℕ) (x : Reached s t at seen) (same : SameRun s t) where
+  module _ (s t : ChangeTable) (at seen : ℕ) (x : Reached s t at seen) (same : SameRun s t) where
     addable : (r : Record) → Counted r → seen < 1024 → Empty s → Addable t r
     addable r c few e =
         let n = x.nets e in
         let l = length_collect (map keyed_movement x.movements) in
-        let a = ap length n.changed in
+        let a = ap length n in
         let b = length-map (items t) keyed in
         let d = length-map x.movements keyed_movement in
         let long = e.long in
         let cap = same.long in
         let many = x.many in
         let k = key r.node r.row in
-        let there : count (changes t) k ≡ count (map keyed_movement x.movements) k = ap (λ v. count v k) n.changed ∙ count_collect (map keyed_movement x.movements) k in
+        let there : count (changes t) k ≡ count (map keyed_movement x.movements) k = ap (λ v. count v k) n ∙ count_collect (map keyed_movement x.movements) k in
         record {
-          kept = n.kept;
           room = omega arith;
           fits = subst (λ z. SFits w32 (signed_copies r +ℤ z)) (sym there) (fits_within (length x.movements) (signed_copies r) (count (map keyed_movement x.movements) k) (copies_within r c) (count_within x.movements x.counted k) (omega arith));
         }
 
-    pub reached_more : (r : Record) (to then : ℕ) (u : Table ChangeLine) → Read bytes at seen to then r → of_base nodes r ≡ true → Counted r → (Addable t r → Added t r u) → Reached s u to then
+    pub reached_more : (r : Record) (to then : ℕ) (u : ChangeTable) → Read bytes at seen to then r → of_base nodes r ≡ true → Counted r → (Addable t r → Added t r u) → Reached s u to then
     unfolding movements_in movements_until
     reached_more r to then u v b c add =
         let next = onward bytes to (seen + 1) in
@@ -151,12 +144,7 @@ module _ (nodes : List Node) (bytes : List ℕ) where
           based = All-push (λ r. of_base nodes r ≡ true) ms r x.based b;
           answer = ap (λ n. prefixed (ms ++ r ∷ []) (movements_in nodes (onward bytes to n))) counted ∙ (sym answer ∙ x.answer);
           until = ap (λ n. (ms ++ r ∷ []) ++ movements_until nodes (onward bytes to n)) counted ∙ (sym until ∙ x.until);
-          nets = λ e.
-              let d = add (addable r c v.few e) in
-              record {
-                kept = d.kept;
-                changed = d.after ∙ ap (add_copies (key r.node r.row) (signed_copies r)) (x.nets e).changed ∙ sym (ap collect (map-append keyed_movement ms (r ∷ [])) ∙ collect_push (map keyed_movement ms) (keyed_movement r));
-              };
+          nets = λ e. (add (addable r c v.few e)).after ∙ ap (add_copies (key r.node r.row) (signed_copies r)) (x.nets e) ∙ sym (ap collect (map-append keyed_movement ms (r ∷ [])) ∙ collect_push (map keyed_movement ms) (keyed_movement r));
         }
 
     pub record Ended (o : Result (List Record) Told) : Type 0 where
@@ -189,8 +177,8 @@ module _ (nodes : List Node) (bytes : List ℕ) where
         }
 
     -- what the table has at the end
-    pub reached_nets : (o : Result (List Record) Told) → Ended o → length nodes ≤ 16 → Kept s → items s ≡ [] → 1024 ≤ capacity s → items t ≡ nets_of (gathered_until nodes bytes)
-    reached_nets o d few kept none long =
-        let n = x.nets (record { kept = kept; none = none; long = long }) in
+    pub reached_nets : (o : Result (List Record) Told) → Ended o → length nodes ≤ 16 → items s ≡ [] → 1024 ≤ capacity s → items t ≡ nets_of (gathered_until nodes bytes)
+    reached_nets o d few none long =
+        let n = x.nets (record { none = none; long = long }) in
         let low : AllByRecursion (λ r. r.node ≤ 15) x.movements = All-weaker (λ r. of_base nodes r ≡ true) (λ r. r.node ≤ 15) (λ r b. let l = base_low nodes r b in omega arith) x.movements x.based in
-        keyed_same (items t) (nets_of x.movements) (n.changed ∙ sym (keyed_nets x.movements low)) ∙ ap nets_of (sym d.until)
+        keyed_same (items t) (nets_of x.movements) (n ∙ sym (keyed_nets x.movements low)) ∙ ap nets_of (sym d.until)

@@ -4,10 +4,8 @@
 --     with_net             a line added or replaced, as copies added at its key
 --     without_net          a line taken out, where the copies come to 0
 --     longer_by_one        copies added at one key make one line more at most
---     net_found, net_absent      the change at a key, from what looking it up answered
-use Rattle.std.proofs.Common.{◌≡◌, ℕ, suc, ◌<◌, ◌≤◌, Bool, true, false, cond, List, [], ◌∷◌, map, length, ℤ, pos, ◌+ℤ◌, Some, None, Option, Ordering, Less, Equal, Greater, sym, refl, ap, ◌∙◌, arith}
+use Rattle.std.proofs.Common.{◌≡◌, suc, ◌<◌, ◌≤◌, Bool, true, false, cond, List, [], ◌∷◌, map, length, ℤ, pos, ◌+ℤ◌, Some, None, Option, Ordering, Less, Equal, Greater, sym, refl, ap, ◌∙◌, arith}
 use lib.IntN.{+ℤ_idl, +ℤ_idr}
-use Rattle.std.specs.List.{slice_get}
 use Rattle.std.specs.Cmp.{ranks}
 use Rattle.std.specs.Ordering.{MatchOrdering, ordering_then, is_eq, nat_cmp}
 use Rattle.bag.specs.declared.lines.ChangeLine.{ChangeLine}
@@ -18,8 +16,7 @@ use Rattle.bag.specs.RowOrder.{order_equal, greater_less}
 use Rattle.bag.proofs.CanonicalForm.{before_transitive, count_before, count_head, canonical_add_copies, equal_counts}
 use Rattle.bag.specs.Integers.{count_add_copies, if_equal_zero}
 use Rattle.table.specs.Order.{by_order}
-use Rattle.table.specs.Entries.{entry_of, place_of, with_entry, without_key}
-use Rattle.table.proofs.Lookups.{place_holds, no_place}
+use Rattle.table.specs.Entries.{entry_of, with_entry, without_key}
 use Rattle.settling.specs.Keys.{key, key_of, keyed}
 use Rattle.settling.proofs.KeyOrder.{key_less, key_greater, key_same}
 
@@ -60,7 +57,7 @@ line_stands r a z xs s n = let m : is_zero z ≡ false = ap is_zero (sym s) ∙ 
 line_gone : (r : Row) (z : ℤ) (xs : Lines) → is_zero z ≡ true → with_line r z xs ≡ xs
 line_gone r z xs n = rw n
 
-pub no_copies : (r : Row) (z : ℤ) (xs : Lines) → Canonical xs → is_zero z ≡ true → add_copies r z xs ≡ xs
+no_copies : (r : Row) (z : ℤ) (xs : Lines) → Canonical xs → is_zero z ≡ true → add_copies r z xs ≡ xs
 no_copies r z xs c n =
     equal_counts (add_copies r z xs) xs (canonical_add_copies r z xs c) c (λ q. count_add_copies r z xs q ∙ ap (λ v. if_equal (row_order r q) v +ℤ count xs q) (zero_is z n) ∙ ap (λ v. v +ℤ count xs q) (if_equal_zero (row_order r q)) ∙ +ℤ_idl (count xs q))
 
@@ -119,11 +116,3 @@ longer_by_one r z (e ∷ xs) = by (row_order r e.0) (longer_by_one r z xs)
     by Less rec = length_with_line r z (e ∷ xs)
     by Equal rec = let l = length_with_line e.0 (z +ℤ e.1) xs in omega arith
     by Greater rec = omega arith
-
--- what looking a key up in a table answers
-module _ (k : ChangeLine) (xs : List ChangeLine) (c : Canonical (map keyed xs)) where
-  pub net_found : (i : ℕ) (o : Option ChangeLine) → Some i ≡ place_of change_line_order k xs → o ≡ slice_get xs i → found_change o ≡ count (map keyed xs) (key_of k)
-  net_found i o q n = ap found_change (n ∙ place_holds change_line_order k xs i (sym q)) ∙ sym (count_found k xs c)
-
-  pub net_absent : None ≡ place_of change_line_order k xs → pos 0 ≡ count (map keyed xs) (key_of k)
-  net_absent q = sym (count_found k xs c ∙ ap found_change (no_place change_line_order k xs (sym q)))

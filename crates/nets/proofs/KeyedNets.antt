@@ -125,8 +125,8 @@ keyed_nets m low =
 
 pub keyed_same : (xs ys : List ChangeLine) → map keyed xs ≡ map keyed ys → xs ≡ ys
 keyed_same [] [] h = refl
-keyed_same [] (y ∷ ys) h = let z : ◌≡◌ {A = ℕ} 0 1 = cc in absurd (omega arith)
-keyed_same (x ∷ xs) [] h = let z : ◌≡◌ {A = ℕ} 0 1 = cc in absurd (omega arith)
+keyed_same [] (y ∷ ys) h = let z : ⊥ = cc in absurd z
+keyed_same (x ∷ xs) [] h = let z : ⊥ = cc in absurd z
 keyed_same (x ∷ xs) (y ∷ ys) h =
     let first : keyed x ≡ keyed y = cc in
     let rest : map keyed xs ≡ map keyed ys = cc in

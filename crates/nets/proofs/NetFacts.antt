@@ -1,4 +1,3 @@
-use Rattle.settling.specs.Keys.{key_of, keyed}
 -- What the nets of a message say of its records. Assumes nothing.
 --     adds_up              each net has the copies put less the copies taken
 --     ascends              the lines ascend and no change is 0
@@ -27,6 +26,7 @@ use Rattle.message.specs.Reading.{Reading, ends, refused, item, proceed, reading
 use Rattle.message.specs.Reading.{behind as read_behind}
 use Rattle.message.proofs.Readings.{records_end, records_item}
 use Rattle.plan.specs.declared.node.Node.{Node}
+use Rattle.settling.specs.Keys.{key_of, keyed}
 use Rattle.sheet.specs.Sheets.{of_node, flattened}
 use Rattle.nets.specs.Nets.{movement, movements_of, net_of, nets_from, nets_of}
 use Rattle.nets.specs.GatherRefusal.{Told, table_refusal}
@@ -118,12 +118,12 @@ module _ (nodes : List Node) where
     where
       by : (b : Bool) → of_base nodes r ≡ b → (o : Result (List Record) Told) → movements_in nodes rest ≡ o → cond b (behind r o) (Err (table_refusal at)) ≡ Ok m → Parted r rest m
       by true p (Ok n) e h = record { base = p; tail = n; further = e; are = cc }
-      by true p (Err f) e h = let z : ◌≡◌ {A = ℕ} 0 1 = cc in absurd (omega arith)
-      by false p o e h = let z : ◌≡◌ {A = ℕ} 0 1 = cc in absurd (omega arith)
+      by true p (Err f) e h = let z : ⊥ = cc in absurd z
+      by false p o e h = let z : ⊥ = cc in absurd z
 
   no_record : (e : Refusal) (m : List Record) → movements_in nodes (refused e) ≡ Ok m → ⊥
   unfolding movements_in
-  no_record e m h = let z : ◌≡◌ {A = ℕ} 0 1 = cc in omega arith
+  no_record e m h = cc
 
   none_left : (m : List Record) → movements_in nodes ends ≡ Ok m → m ≡ []
   unfolding movements_in
@@ -165,8 +165,8 @@ module _ (nodes : List Node) where
       by true e rec =
           let f : fits_width (base_at nodes r.node) r.row ≡ false = ap (λ w. fits_width w r.row) (ap (base_at nodes) (eqb-true r.node i e) ∙ h) in
           let t = all.0 in
-          let z : ◌≡◌ {A = ℕ} 0 1 = cc in
-          absurd (omega arith)
+          let z : ⊥ = cc in
+          absurd z
       by false e rec = rec
 
   wide_movements : (m : List Record) → AllByRecursion (λ r. of_base nodes r ≡ true) m → (i w : ℕ) → base_at nodes i ≡ Some w → EachRow (λ q. (j : ℕ) → w ≤ j → column_of q j ≡ pos 0) (movements_of i m)

@@ -1,14 +1,14 @@
 -- The first net that takes too much, and what it says in counts. Assumes nothing.
 --     first_short h ls         the node of the first line that leaves fewer than 0 copies
---     first_short_found, first_short_passed, first_short_end      a line looked at, and none left
 --     first_short_flattened    among the nets of one node behind the other it is the lowest such node
 --     short_in_counts          what that says of every row
 --     found_short              both, where the nets are those of a message
-use Rattle.std.proofs.Common.{◌≡◌, ℕ, zero, suc, ◌+◌, ◌<◌, ◌≤◌, Bool, true, false, cond, not, ◌⊎◌, List, [], ◌∷◌, ◌++◌, length, get_or, drop, ℤ, pos, ◌+ℤ◌, ◌≤ℤ◌, ◌<ℤ◌, Some, None, Option, Ordering, Less, Equal, Greater, sym, refl, ap, ◌∙◌, subst, inl, inr, ⊎_elim, add-one, arith, drop-cons}
+use Rattle.std.proofs.Common.{◌≡◌, ℕ, zero, suc, ◌+◌, ◌<◌, ◌≤◌, Bool, true, false, cond, not, ◌⊎◌, List, [], ◌∷◌, ◌++◌, ℤ, pos, ◌+ℤ◌, ◌≤ℤ◌, ◌<ℤ◌, Some, None, Option, Ordering, Less, Equal, Greater, sym, refl, ap, ◌∙◌, subst, inl, inr, ⊎_elim, arith}
 use lib.IntN.{+ℤ_idl, +ℤ_idr}
 use lib.Signed.{le_z}
+use Rattle.std.specs.List.{find}
+use Rattle.std.specs.Option.{option_map}
 use Rattle.std.proofs.lemmas.Int.{ints}
-use Rattle.std.proofs.lemmas.List.{drop_all}
 use Rattle.std.proofs.lemmas.Bool.{cases_eq}
 use Rattle.bag.specs.declared.lines.ChangeLine.{ChangeLine}
 use Rattle.bag.specs.Order.{Row, row_order}
@@ -18,45 +18,32 @@ use Rattle.bag.proofs.CanonicalForm.{count_before, count_head, canonical_collect
 use Rattle.bag.proofs.OperatorBags.{count_low}
 use Rattle.message.specs.declared.record.Record.{Record}
 use Rattle.stock.specs.Holding.{Holding, LawfulHolding, shelf_of}
-use Rattle.sheet.specs.Sheets.{of_node, flattened}
+use Rattle.sheet.specs.Sheets.{change_line, of_node, flattened}
 use Rattle.nets.specs.Nets.{movements_of, net_of, nets_from, nets_by_node, nets_of}
 use Rattle.nets.specs.Shorts.{goes_short, short_from, short_at, ShortOf, Enough, ShortInCounts}
 
 abbrev pub takes_too_much : Holding → ChangeLine → Bool
 takes_too_much h l = not (le_z (pos 0) (count (shelf_of h l.node) l.row +ℤ l.change))
 
-unfoldable pub first_short : Holding → List ChangeLine → Option ℕ
-first_short h [] = None
-first_short h (l ∷ ls) = cond (takes_too_much h l) (Some l.node) (first_short h ls)
+-- the node of a line, if there is one
+abbrev node_of : Option ChangeLine → Option ℕ
+node_of o = option_map (λ (l : ChangeLine). l.node) o
 
--- one line more was looked at
-module _ (h : Holding) (ls : List ChangeLine) (i : ℕ) (d : ChangeLine) (l : i < length ls) where
-  step : first_short h (drop i ls) ≡ cond (takes_too_much h (get_or ls i d)) (Some (get_or ls i d).node) (first_short h (drop (i + 1) ls))
-  unfolding first_short
-  step = rw add-one (ap (first_short h) (drop-cons ls i d l))
-
-  pub first_short_found : (b : Bool) → b ≡ takes_too_much h (get_or ls i d) → b ≡ true → Some (get_or ls i d).node ≡ first_short h (drop i ls)
-  first_short_found b t e = sym (step ∙ ap (λ v. cond v (Some (get_or ls i d).node) (first_short h (drop (i + 1) ls))) (sym t ∙ e))
-
-  pub first_short_passed : (b : Bool) → b ≡ takes_too_much h (get_or ls i d) → b ≡ false → first_short h (drop (i + 1) ls) ≡ first_short h (drop i ls)
-  first_short_passed b t e = sym (step ∙ ap (λ v. cond v (Some (get_or ls i d).node) (first_short h (drop (i + 1) ls))) (sym t ∙ e))
-
-pub first_short_end : (h : Holding) (ls : List ChangeLine) (i : ℕ) → length ls ≤ i → first_short h (drop i ls) ≡ None
-unfolding first_short
-first_short_end h ls i l = ap (first_short h) (drop_all i ls l)
+abbrev pub first_short : Holding → List ChangeLine → Option ℕ
+first_short h ls = node_of (find (takes_too_much h) ls)
 
 first_of_node : (h : Holding) (k : ℕ) (d : Lines) (ls : List ChangeLine) → first_short h (of_node k d ++ ls) ≡ cond (goes_short (shelf_of h k) d) (Some k) (first_short h ls)
-unfolding first_short every_line
+unfolding every_line
 first_of_node h k [] ls = refl
 first_of_node h k (e ∷ d) ls = by (le_z (pos 0) (count (shelf_of h k) e.0 +ℤ e.1)) (first_of_node h k d ls)
   where
     by : (b : Bool) → first_short h (of_node k d ++ ls) ≡ cond (goes_short (shelf_of h k) d) (Some k) (first_short h ls)
-        → cond (not b) (Some k) (first_short h (of_node k d ++ ls)) ≡ cond (not (cond b (every_line (λ q n. le_z (pos 0) (count (shelf_of h k) q +ℤ n)) d) false)) (Some k) (first_short h ls)
+        → node_of (cond (not b) (Some (change_line k e)) (find (takes_too_much h) (of_node k d ++ ls))) ≡ cond (not (cond b (every_line (λ q n. le_z (pos 0) (count (shelf_of h k) q +ℤ n)) d) false)) (Some k) (first_short h ls)
     by true rec = rec
     by false rec = refl
 
 pub first_short_flattened : (h : Holding) (k : ℕ) (ds : List Lines) → first_short h (flattened k ds) ≡ short_from h k ds
-unfolding first_short flattened short_from
+unfolding flattened short_from
 first_short_flattened h k [] = refl
 first_short_flattened h k (d ∷ ds) = first_of_node h k d (flattened (suc k) ds) ∙ ap (cond (goes_short (shelf_of h k) d) (Some k)) (first_short_flattened h (suc k) ds)
 
@@ -85,7 +72,7 @@ module _ (f : Row → ℤ) where
     where
       by : (b : Bool) → fine e.0 e.1 ≡ b → (o : Ordering) → row_order e.0 q ≡ o → cond b (every_line fine d) false ≡ true
           → (every_line fine d ≡ true → (q : Row) → (count d q ≡ pos 0) ⊎ (pos 0 ≤ℤ (f q +ℤ count d q))) → (count (e ∷ d) q ≡ pos 0) ⊎ (pos 0 ≤ℤ (f q +ℤ count (e ∷ d) q))
-      by false t o h a rec = let z : ◌≡◌ {A = ℕ} 0 1 = cc in absurd (omega arith)
+      by false t o h a rec = let z : ⊥ = cc in absurd z
       by true t Less h a rec = subst (λ n. (n ≡ pos 0) ⊎ (pos 0 ≤ℤ (f q +ℤ n))) (sym (count_past e d q h)) (rec a q)
       by true t Equal h a rec =
           let s : e.0 ≡ q = order_equal e.0 q h in
@@ -99,7 +86,7 @@ module _ (f : Row → ℤ) where
 
   some_lacking : (d : Lines) → Canonical d → every_line fine d ≡ false → Lacking d
   unfolding every_line
-  some_lacking [] c a = let z : ◌≡◌ {A = ℕ} 0 1 = cc in absurd (omega arith)
+  some_lacking [] c a = let z : ⊥ = cc in absurd z
   some_lacking (e ∷ d) c a = by (fine e.0 e.1) refl a (some_lacking d c.2)
     where
       by : (b : Bool) → fine e.0 e.1 ≡ b → cond b (every_line fine d) false ≡ false → (every_line fine d ≡ false → Lacking d) → Lacking (e ∷ d)
@@ -120,7 +107,7 @@ module _ (h : Holding) (lawful : LawfulHolding h) (m : List Record) where
     where
       passed : (b : Bool) → not b ≡ false → b ≡ true
       passed true p = refl
-      passed false p = let z : ◌≡◌ {A = ℕ} 0 1 = cc in absurd (omega arith)
+      passed false p = let z : ⊥ = cc in absurd z
 
       none : count (net_of k m) q ≡ pos 0 → pos 0 ≤ℤ (count (shelf_of h k) q +ℤ count (net_of k m) q)
       none z = subst (λ n. pos 0 ≤ℤ (count (shelf_of h k) q +ℤ n)) (sym z) (subst (λ n. pos 0 ≤ℤ n) (sym (+ℤ_idr (count (shelf_of h k) q))) (count_low (shelf_of h k) (lawful.bags k).1 q))
@@ -132,7 +119,7 @@ module _ (h : Holding) (lawful : LawfulHolding h) (m : List Record) where
   short_of k s = let l = some_lacking (count (shelf_of h k)) (net_of k m) (canonical_net k) (failed (every_line (fine (count (shelf_of h k))) (net_of k m)) s) in (l.0, l.1)
     where
       failed : (b : Bool) → not b ≡ true → b ≡ false
-      failed true p = let z : ◌≡◌ {A = ℕ} 0 1 = cc in absurd (omega arith)
+      failed true p = let z : ⊥ = cc in absurd z
       failed false p = refl
 
   abbrev From : ℕ → ℕ → Option ℕ → Type 0

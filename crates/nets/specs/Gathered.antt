@@ -9,27 +9,26 @@
 --   movements_until nodes x   the records before the first refusal, or all
 --   gathered nodes bytes, gathered_until nodes bytes      the same of a message's bytes
 use Rattle.std.specs.Prelude.{ℕ, Bool, false, cond, List, [], ◌∷◌, drop, Some, None, Ok, Err, Option, Result}
-use Rattle.std.specs.List.{slice_get}
+use Rattle.std.specs.List.{slice_get, list_all}
 use Rattle.bag.specs.Order.{Row}
 use Rattle.bag.specs.Bag.{is_zero}
 use Rattle.message.specs.declared.record.Record.{Record}
 use Rattle.message.specs.Reading.{Reading, ends, refused, item, reading}
 use Rattle.plan.specs.declared.node.Node.{Node}
 use Rattle.plan.specs.declared.node.Node.TheVariants.{Base, Keep, Pick, Pair, Both, Less, Total}
-use Rattle.plan.specs.Lawful.{every}
 use Rattle.nets.specs.GatherRefusal.{Told, of_message, table_refusal}
 
 abbrev pub clear_from : ℕ → Row → Bool
-clear_from w row = every is_zero (drop w row)
+clear_from w row = list_all is_zero (drop w row)
 
 abbrev pub base_width : Node → Option ℕ
 base_width (Base w) = Some w
 base_width (Keep c a relation operand) = None
-base_width (Pick c n columns) = None
-base_width (Pair l r n pairs) = None
+base_width (Pick c columns) = None
+base_width (Pair l r pairs) = None
 base_width (Both l r) = None
 base_width (Less l r) = None
-base_width (Total c j n columns) = None
+base_width (Total c j columns) = None
 
 abbrev pub width_at : Option Node → Option ℕ
 width_at None = None

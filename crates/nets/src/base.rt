@@ -1,6 +1,6 @@
 ghost use Rattle.std.specs.Prelude.{◌≡◌};
 ghost use Rattle.plan.specs.Plans.{nodes_of};
-ghost use Rattle.nets.specs.Gathered.{clear_from, base_width, of_base};
+ghost use Rattle.nets.specs.Gathered.{clear_from, of_base};
 
 use bag::row::Row;
 use message::record::Record;
@@ -11,33 +11,15 @@ use plan::plan::Plan;
 fn is_clear_from(width: u8, row: &Row) -> bool
     ensures { result ≡ clear_from width row.now }
 {
-    for i in width as usize..8 {
-        if row[i] != 0 {
-            return false;
-        }
-    }
-    true
-}
-
-// How wide the rows of a base are; none for another node.
-fn width_of_base(node: &Node) -> Option<u8>
-    ensures { result ≡ base_width node.now }
-{
-    match node {
-        Node::Base { width } => Some(*width),
-        _ => None,
-    }
+    row.iter().skip(width as usize).all(|column| *column == 0)
 }
 
 // Whether a record is of a base of the plan: its node is one, and its row has nothing past that base's width.
 pub(crate) fn is_of_base(plan: &Plan, movement: &Record) -> bool
     ensures { result ≡ of_base (nodes_of plan.now) movement.now }
 {
-    let Some(node) = plan.node(movement.node as usize) else {
+    let Some(Node::Base { width }) = plan.node(movement.node as usize) else {
         return false;
     };
-    match width_of_base(&node) {
-        Some(width) => is_clear_from(width, &movement.row),
-        None => false,
-    }
+    is_clear_from(width, &movement.row)
 }

@@ -5,7 +5,7 @@ ghost use Rattle.nets.specs.declared.fault.GatherFault.TheVariants as faults;
 use message::fault::ReadFault;
 
 // Why a message has no nets.
-#[derive(Clone, Copy)]
+#[derive(Clone, Copy, PartialEq, Eq, Debug)]
 pub enum GatherFault {
     // The message is not read; what the reader found.
     Message { fault: ReadFault },
@@ -13,6 +13,7 @@ pub enum GatherFault {
     Table { place: usize },
 }
 
+// Written by hand, since a derived `From` promises nothing of which fault `?` makes.
 impl From<ReadFault> for GatherFault {
     ghost from_gives = { λ f r. r ≡ faults.Message f };
 

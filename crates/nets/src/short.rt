@@ -10,7 +10,7 @@ use stock::stock::Stock;
 
 // Whether a net takes more copies of its row than the base has.
 fn takes_too_much<S: Stock>(stock: &S, net: &ChangeLine) -> bool
-    ensures { S.Stock.sound stock.now → result ≡ not (int_le (pos 0) (count (shelf_of (S.Stock.meaning stock.now) net.now.node) net.now.row +ℤ net.now.change)) }
+    ensures { result ≡ not (int_le (pos 0) (count (shelf_of (S.Stock.meaning stock.now) net.now.node) net.now.row +ℤ net.now.change)) }
 {
     stock.count(net.node, &net.row) as i64 + (net.change as i64) < 0
 }
@@ -18,13 +18,10 @@ fn takes_too_much<S: Stock>(stock: &S, net: &ChangeLine) -> bool
 // The lowest base of which the nets of a message take more copies of a row than it has. The nets ascend by node, so the first that
 // takes too much decides.
 pub fn short<S: Stock>(stock: &S, nets: &[ChangeLine]) -> Option<u8>
-    ensures answer { (m : List Record) → nets.now ≡ nets_of m → S.Stock.sound stock.now → result ≡ short_at (S.Stock.meaning stock.now) m }
-    ensures counts { (m : List Record) → nets.now ≡ nets_of m → S.Stock.sound stock.now → ShortInCounts (S.Stock.meaning stock.now) m result }
+    ensures answer { (m : List Record) → nets.now ≡ nets_of m → result ≡ short_at (S.Stock.meaning stock.now) m }
+    ensures counts { (m : List Record) → nets.now ≡ nets_of m → ShortInCounts (S.Stock.meaning stock.now) m result }
 {
-    for net in nets {
-        if takes_too_much(stock, net) {
-            return Some(net.node);
-        }
-    }
-    None
+    nets.iter()
+        .find(|net| takes_too_much(stock, net))
+        .map(|net| net.node)
 }

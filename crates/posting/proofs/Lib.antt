@@ -1,7 +1,10 @@
+pub mod Runs
+pub mod NodeLines
+pub mod Pages
 pub mod AfreshAt
 pub mod NodeRows
-pub mod NetsPart
-pub mod Runs
 pub mod NodeSetting
 pub mod Step
+pub mod Paged
+pub mod Stepped
 pub mod PlanStep

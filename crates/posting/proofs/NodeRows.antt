@@ -27,6 +27,7 @@ use Rattle.plan.specs.Lawful.{width}
 use Rattle.plan.specs.Sound.{Sound, Handed}
 use Rattle.plan.specs.Afresh.{is_base, board, pairs_of, board_of}
 use Rattle.delta.specs.NodeChange.{counts_fit, LawfulRow}
+use Rattle.delta.proofs.Appended.{each_row_too}
 use Rattle.posting.specs.Working.{groups_fit}
 
 pub record LowerBoard (w : ℕ) (b : Lines) : Type 0 where
@@ -39,10 +40,6 @@ shown_zero : ShownColumn (pos 0)
 shown_zero = omega arith
 
 -- ---- from one form of a row's facts to another
-
-each_row : (P Q : Row → Type 0) → ((r : Row) → P r → Q r) → (xs : Lines) → EachRow P xs → EachRow Q xs
-each_row P Q f [] h = tt
-each_row P Q f (e ∷ xs) h = (f e.0 h.0, each_row P Q f xs h.1)
 
 both_rows : (P Q R : Row → Type 0) → ((r : Row) → P r → Q r → R r) → (xs : Lines) → EachRow P xs → EachRow Q xs → EachRow R xs
 both_rows P Q R f [] h k = tt
@@ -61,10 +58,10 @@ shown_every [] h = tt
 shown_every (z ∷ r) h = (h.0, shown_every r h.1)
 
 of_kind : (w : ℕ) (xs : Lines) → EachRow (LawfulRow w) xs → EachRow (RowOf ShownColumn shown_zero) xs
-of_kind w xs h = each_row (LawfulRow w) (RowOf ShownColumn shown_zero) (λ r l. (l.width.0, all_every r l.columns)) xs h
+of_kind w xs h = each_row_too (LawfulRow w) (RowOf ShownColumn shown_zero) (λ r l. (l.width.0, all_every r l.columns)) xs h
 
 of_width : (w : ℕ) (xs : Lines) → EachRow (LawfulRow w) xs → EachRow (OfWidth w) xs
-of_width w xs h = each_row (LawfulRow w) (OfWidth w) (λ r l. l.width) xs h
+of_width w xs h = each_row_too (LawfulRow w) (OfWidth w) (λ r l. l.width) xs h
 
 lawful_from : (w : ℕ) (xs : Lines) → EachRow (OfWidth w) xs → EachRow (RowOf ShownColumn shown_zero) xs → EachRow (LawfulRow w) xs
 lawful_from w xs h k = both_rows (OfWidth w) (RowOf ShownColumn shown_zero) (LawfulRow w) (λ r a b. record { width = a; columns = every_all r b.1 }) xs h k
@@ -106,11 +103,11 @@ module _ {V : Type 0} {ok : V → Type 0} (M : Measure V) (L : MeasureLaws ok M)
   unfolding board_of
   node_bag ws bs k s vs (Base w) f lower n base = base refl
   node_bag ws bs k s vs (Keep c a relation operand) f lower n base = operators_give_bags.of_keep a relation operand (board bs c) (lower c f.lower)
-  node_bag ws bs k s vs (Pick c m columns) f lower n base = operators_give_bags.of_pick (take m columns) (board bs c) (lower c f.lower)
-  node_bag ws bs k s vs (Pair l r m pairs) f lower n base = operators_give_bags.of_pair (get_or ws l 0) (pairs_of m pairs) (board bs l) (board bs r) (lower l f.left) (lower r f.right)
+  node_bag ws bs k s vs (Pick c columns) f lower n base = operators_give_bags.of_pick (take columns.count columns.places) (board bs c) (lower c f.lower)
+  node_bag ws bs k s vs (Pair l r pairs) f lower n base = operators_give_bags.of_pair (get_or ws l 0) (pairs_of pairs.count pairs.places) (board bs l) (board bs r) (lower l f.left) (lower r f.right)
   node_bag ws bs k s vs (Both l r) f lower n base = operators_give_bags.of_both (board bs l) (board bs r) (lower l f.left) (lower r f.right)
   node_bag ws bs k s vs (Less l r) f lower n base = operators_give_bags.of_less (board bs l) (board bs r) (lower l f.left) (lower r f.right)
-  node_bag ws bs k s vs (Total c j m columns) f lower n base = (total_has_a_row_for_each_group M L j (take m columns) (board bs c) (few_listed m 7 columns f.few)).a_bag
+  node_bag ws bs k s vs (Total c j columns) f lower n base = (total_has_a_row_for_each_group M L j (take columns.count columns.places) (board bs c) (few_listed columns.count 7 columns.places f.few)).a_bag
 
   total_rows : (j w : ℕ) (is : List ℕ) (b : Lines) → length is + 1 + M.shows ≤ 8 → LowerBoard w b → all_groups_fit M j is b ≡ true → EachRow (LawfulRow (length is + 1 + M.shows)) (total M j is b)
   total_rows j w is b room lower fit =
@@ -129,22 +126,22 @@ module _ {V : Type 0} {ok : V → Type 0} (M : Measure V) (L : MeasureLaws ok M)
   unfolding board_of both monus
   node_rows ws bs k (Base w) f handed lower n base fit = base refl
   node_rows ws bs k (Keep c a relation operand) f handed lower n base fit = rows_select (LawfulRow (get_or ws c 0)) _ (board bs c) (lower c f.lower).rows
-  node_rows ws bs k (Pick c m columns) f handed lower n base fit =
-      let is = take m columns in
-      let e = all_listed m columns f.few handed.places in
+  node_rows ws bs k (Pick c columns) f handed lower n base fit =
+      let is = take columns.count columns.places in
+      let e = all_listed columns.count columns.places f.few handed.places in
       subst (λ w. EachRow (LawfulRow w) (pick is (board bs c))) e
       (lawful_from (length is) (pick is (board bs c)) (operators_keep_widths.of_pick is (board bs c)) (kind_pick ShownColumn shown_zero is (board bs c) (of_kind (get_or ws c 0) (board bs c) (lower c f.lower).rows)))
-  node_rows ws bs k (Pair l r m pairs) f handed lower n base fit =
+  node_rows ws bs k (Pair l r pairs) f handed lower n base fit =
       lawful_from (get_or ws l 0 + get_or ws r 0) _
-      (operators_keep_widths.of_pair (get_or ws l 0) (get_or ws r 0) (pairs_of m pairs) (board bs l) (board bs r) (of_width (get_or ws r 0) (board bs r) (lower r f.right).rows))
-      (kind_pair ShownColumn shown_zero (get_or ws l 0) (pairs_of m pairs) (board bs l) (board bs r) (of_kind (get_or ws l 0) (board bs l) (lower l f.left).rows) (of_kind (get_or ws r 0) (board bs r) (lower r f.right).rows))
+      (operators_keep_widths.of_pair (get_or ws l 0) (get_or ws r 0) (pairs_of pairs.count pairs.places) (board bs l) (board bs r) (of_width (get_or ws r 0) (board bs r) (lower r f.right).rows))
+      (kind_pair ShownColumn shown_zero (get_or ws l 0) (pairs_of pairs.count pairs.places) (board bs l) (board bs r) (of_kind (get_or ws l 0) (board bs l) (lower l f.left).rows) (of_kind (get_or ws r 0) (board bs r) (lower r f.right).rows))
   node_rows ws bs k (Both l r) f handed lower n base fit =
       rows_collect (LawfulRow (get_or ws l 0)) _ (rows-++ (LawfulRow (get_or ws l 0)) (board bs l) (board bs r) (lower l f.left).rows (subst (λ w. EachRow (LawfulRow w) (board bs r)) (sym f.equal) (lower r f.right).rows))
   node_rows ws bs k (Less l r) f handed lower n base fit = rows_map_counts (LawfulRow (get_or ws l 0)) _ (board bs l) (lower l f.left).rows
-  node_rows ws bs k (Total c j m columns) f handed lower n base fit =
-      let is = take m columns in
+  node_rows ws bs k (Total c j columns) f handed lower n base fit =
+      let is = take columns.count columns.places in
       let few = f.few in
-      let e = all_listed m columns (omega arith) handed.places in
+      let e = all_listed columns.count columns.places (omega arith) handed.places in
       let narrow = f.narrow in
       subst (λ w. EachRow (LawfulRow (w + 1 + M.shows)) (total M j is (board bs c))) e
       (total_rows j (get_or ws c 0) is (board bs c) (omega arith) (lower c f.lower) fit)

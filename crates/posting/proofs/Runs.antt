@@ -2,15 +2,16 @@
 --     differences_at, differences_long     the change of a node, and how many there are
 --     changes_more     the change of one node more
 --     flattened-++, flattened_one, flattened_last      lines of some nodes and of others behind them
+--     board_short      the lines of a node are no more than all lines
 --     run_at           the lines of a node stand where those of the nodes before end
 use Rattle.std.proofs.Common.{◌≡◌, ℕ, zero, suc, ◌+◌, ◌-◌, ◌<◌, ◌≤◌, min, List, [], ◌∷◌, ◌++◌, length, take, drop, sym, refl, ap, ◌∙◌, arith}
-use Rattle.std.proofs.lemmas.List.{append-nil, append_assoc, length-append, length-take, length-take-le, take_more, drop_more, take-append-drop, take_at, drop_at}
+use Rattle.std.proofs.lemmas.List.{append-nil, append_assoc, length-append, length-map, length-take, length-take-le, take_more, drop_more, take-append-drop, take_at, drop_at}
 use Rattle.bag.specs.Bag.{Lines, difference}
 use Rattle.stock.specs.Holding.{Holding, shelf_of}
 use Rattle.plan.specs.Afresh.{board}
-use Rattle.sheet.specs.Sheets.{of_node, flattened, RunOf}
+use Rattle.sheet.specs.Sheets.{of_node, change_line, flattened, RunOf}
 use Rattle.settling.specs.Boards.{differences}
-use Rattle.posting.specs.Reaching.{changes_to}
+use Rattle.posting.specs.Changes.{changes_to}
 
 pub differences_at : (olds news : List Lines) (i : ℕ) → i < length olds → i < length news → board (differences olds news) i ≡ difference (board olds i) (board news i)
 unfolding differences
@@ -69,3 +70,10 @@ run_at ds c h =
       inside = omega arith;
       holds = ap (λ n. take n (drop (length front) (flattened 0 ds))) gap ∙ ap (λ t. take (length (of_node c d)) t) (ap (drop (length front)) here ∙ drop_at front (of_node c d ++ rest) (length front) refl) ∙ take_at (of_node c d) rest (length (of_node c d)) refl;
     }
+
+-- no board is longer than all lines
+pub board_short : (k : ℕ) (ds : List Lines) (i : ℕ) → length (board ds i) ≤ length (flattened k ds)
+unfolding flattened
+board_short k [] i = omega arith
+board_short k (d ∷ ds) zero = let e = length-append (of_node k d) (flattened (suc k) ds) in let f = length-map d (change_line k) in omega arith
+board_short k (d ∷ ds) (suc i) = let e = length-append (of_node k d) (flattened (suc k) ds) in let f = board_short (suc k) ds i in omega arith

@@ -1,50 +1,35 @@
 -- One node more is worked out. Assumes nothing.
---     node_more      all that is owed of the node is known, and its lines stand on the sheet
---     step_over, step_wide, step_paper, step_on      what the node's answer says of the judgement of all nodes from it on
-use Rattle.std.proofs.Common.{◌≡◌, ℕ, zero, suc, ◌+◌, ◌<◌, ◌≤◌, Bool, true, false, cond, leb, List, [], ◌∷◌, ◌++◌, length, get_or, take, drop, Ok, Err, Result, sym, refl, ap, ◌∙◌, subst, ap₂, ⊎_elim, arith}
-use Rattle.std.proofs.lemmas.List.{length-append, length-map, take_all, take-append-le, get_or_append_left, get_or_at, drop_more}
-use Rattle.std.proofs.lemmas.Bool.{cases_lt, le-leb, lt-leb}
+--     judged_on, judged_off      what is answered at a node decides with the nodes behind it the judgement of all of them
+--     node_more      where nothing is refused, all that is owed of the node is known, and its lines stand on the sheet
+use Rattle.std.proofs.Common.{◌≡◌, ℕ, zero, suc, ◌+◌, ◌<◌, ◌≤◌, Bool, true, false, cond, leb, List, [], ◌∷◌, ◌++◌, length, get_or, Ok, Err, Result, sym, refl, ap, ◌∙◌, subst, ap₂, ⊎_elim, arith}
+use Rattle.std.proofs.lemmas.List.{get_or_append_left, get_or_at}
+use Rattle.std.proofs.lemmas.Bool.{cases_lt}
 use Rattle.bag.specs.declared.lines.ChangeLine.{ChangeLine}
 use Rattle.bag.specs.Bag.{Lines, IsBag, EachRow, difference}
 use Rattle.bag.specs.Measure.{Measure, MeasureLaws}
 use Rattle.bag.proofs.LeastChange.{difference_changes}
 use Rattle.bag.proofs.LineCounts.{length_most}
-use Rattle.stock.specs.Holding.{Holding, LawfulHolding, shelf_of, lines_on}
+use Rattle.stock.specs.Holding.{Holding, LawfulHolding, shelf_of}
 use Rattle.plan.specs.declared.node.Node.{Node}
 use Rattle.plan.specs.Lawful.{width, widths}
 use Rattle.plan.specs.Sound.{Sound, Handed}
 use Rattle.plan.specs.Afresh.{board, board_of, afresh}
-use Rattle.sheet.specs.Sheets.{of_node, change_line, flattened, tally, OnSheet}
-use Rattle.sheet.proofs.Laid.{flattened_more}
-use Rattle.delta.specs.declared.fault.NodeFault.{NodeFault}
-use Rattle.delta.specs.declared.fault.NodeFault.TheVariants as node
-use Rattle.delta.specs.NodeChange.{counts_fit, LawfulRow, LowerNode, with_change, NodeChange}
+use Rattle.delta.specs.NodeChange.{counts_fit, LawfulRow, LowerNode}
 use Rattle.delta.proofs.Finished.{old_counts}
+use Rattle.delta_groups.proofs.TotalFinished.{lines_most}
 use Rattle.posting.specs.declared.fault.WorkFault.{WorkFault}
 use Rattle.posting.specs.declared.fault.WorkFault.TheVariants as work
 use Rattle.posting.specs.Working.{groups_fit, judged_from, Ready}
-use Rattle.posting.specs.Reaching.{changes_to, Reached}
+use Rattle.posting.specs.Changes.{changes_to, Reached, step_answer, Step}
 use Rattle.posting.proofs.AfreshAt.{afresh_long}
 use Rattle.posting.proofs.NodeRows.{LowerBoard, node_bag, node_rows}
 use Rattle.posting.proofs.NodeSetting.{groups_fit_agree, old_board, new_board}
-use Rattle.posting.proofs.Runs.{changes_long, changes_more}
-
-shelf_short : (bags : List Lines) (i : ℕ) → length (get_or bags i []) ≤ lines_on bags
-unfolding lines_on
-shelf_short [] i = omega arith
-shelf_short (b ∷ bags) zero = omega arith
-shelf_short (b ∷ bags) (suc i) = let e = shelf_short bags i in omega arith
-
-pub board_short : (k : ℕ) (ds : List Lines) (i : ℕ) → length (board ds i) ≤ length (flattened k ds)
-unfolding flattened
-board_short k [] i = omega arith
-board_short k (d ∷ ds) zero = let e = length-append (of_node k d) (flattened (suc k) ds) in let f = length-map d (change_line k) in omega arith
-board_short k (d ∷ ds) (suc i) = let e = length-append (of_node k d) (flattened (suc k) ds) in let f = board_short (suc k) ds i in omega arith
+use Rattle.posting.proofs.Runs.{changes_long, changes_more, board_short}
 
 module _ {V : Type 0} {ok : V → Type 0} (M : Measure V) (L : MeasureLaws ok M) (xs : List Node) (h : Holding) (law : LawfulHolding h) (moves net net' : ℕ → Lines) (few : length xs ≤ 16)
     (ready : Ready M xs (widths M.shows [] xs) h moves net net') (k : ℕ) (here : k < length xs) (d : Node) (sound : Sound M.shows (widths M.shows [] xs) k (get_or xs k d)) (handed : Handed M.shows (widths M.shows [] xs) k (get_or xs k d))
     (wide : get_or (widths M.shows [] xs) k 0 ≡ width M.shows (widths M.shows [] xs) (get_or xs k d))
-    (room : ℕ) (sheet : List ChangeLine) (used : ℕ) (starts : List ℕ) (reached : Reached M xs (widths M.shows [] xs) h net' k room sheet used starts) where
+    (room : ℕ) (sheet : List ChangeLine) (used : ℕ) (reached : Reached (widths M.shows [] xs) h (afresh M xs net') k room sheet used) where
   abbrev ws : List ℕ
   ws = widths M.shows [] xs
 
@@ -56,7 +41,7 @@ module _ {V : Type 0} {ok : V → Type 0} (M : Measure V) (L : MeasureLaws ok M)
 
   old_lower : (i : ℕ) → i < k → LowerBoard (get_or ws i 0) (shelf_of h i)
   old_lower i l =
-      let short = shelf_short h.shelves i in
+      let short = lines_most h.shelves i in
       let fits = law.room in
       let small = law.small in
       record { bag = law.bags i; rows = (reached.lower i l).old_rows; counts = old_counts h law i; short = omega arith }
@@ -65,13 +50,13 @@ module _ {V : Type 0} {ok : V → Type 0} (M : Measure V) (L : MeasureLaws ok M)
   new_lower i l =
       let c = (reached.lower i l).changes in
       let ds = changes_to h news k in
-      let short = shelf_short h.shelves i in
+      let short = lines_most h.shelves i in
       let fits = law.room in
       let small = law.small in
       let most = length_most (shelf_of h i) (board ds i) (board news i) c.old_bag.0 c.in_order c.new_bag.0 c.moves in
       let lines = board_short 0 ds i in
-      let enough = reached.filled.room_enough in
-      let page = reached.filled.on_sheet.small in
+      let enough = reached.lines.room_enough in
+      let page = reached.lines.on_sheet.small in
       record { bag = c.new_bag; rows = (reached.lower i l).new_rows; counts = (reached.lower i l).counts; short = omega arith }
 
   new_bag : IsBag (board news k)
@@ -101,120 +86,66 @@ module _ {V : Type 0} {ok : V → Type 0} (M : Measure V) (L : MeasureLaws ok M)
   count_here : length (changes_to h news k) ≡ k
   count_here = let l = long in changes_long h news law.sixteen (omega arith) k (omega arith)
 
-  -- the lines up to this node
-  lines : length (with_change (changes_to h news k) (difference (shelf_of h k) (board news k))) ≡ used + length (difference (shelf_of h k) (board news k))
-  lines =
-      let ds = changes_to h news k in
-      let dk = difference (shelf_of h k) (board news k) in
-      let f = reached.filled in
-      let m = f.on_sheet.many in
-      let e = f.room_enough in
-      let a = ap length (flattened_more 0 ds dk) ∙ length-append (flattened 0 ds) (of_node (0 + length ds) dk) in
-      let b = length-map dk (change_line (0 + length ds)) in
-      omega arith
+  -- where neither is refused
+  taken : (r : Result ℕ WorkFault) → r ≡ step_answer M h.shelves news room used k x → (n : ℕ) → r ≡ Ok n → (counts_fit (board news k) ≡ true) × (groups_fit M x news ≡ true)
+  taken r answer n e = by (counts_fit (board news k)) refl (groups_fit M x news) refl (sym answer ∙ e)
+    where
+      by : (a : Bool) → counts_fit (board news k) ≡ a → (b : Bool) → groups_fit M x news ≡ b
+          → cond a (cond b (cond (leb (used + length (difference (shelf_of h k) (board news k))) room) (Ok (used + length (difference (shelf_of h k) (board news k)))) (Err (work.Paper k))) (Err (work.Wide k))) (Err (work.Over k)) ≡ Ok n
+          → (counts_fit (board news k) ≡ true) × (groups_fit M x news ≡ true)
+      by true p true q f = (p, q)
+      by true p false q f = absurd (let z : ◌≡◌ {A = ℕ} 0 1 = cc in let y : ⊥ = omega arith in y)
+      by false p b q f = absurd (let z : ◌≡◌ {A = ℕ} 0 1 = cc in let y : ⊥ = omega arith in y)
 
-  module _ (sheet' : List ChangeLine) (r : Result ℕ NodeFault) (made : NodeChange h k (board news k) (groups_fit M x news) (changes_to h news k) room sheet' r) where
-    abbrev es : List ChangeLine
-    es = with_change (changes_to h news k) (difference (shelf_of h k) (board news k))
+  lower_more : counts_fit (board news k) ≡ true → groups_fit M x news ≡ true → (i : ℕ) → i < k + 1 → LowerNode (get_or ws i 0) (shelf_of h i) (board (changes_to h news (k + 1)) i) (board news i)
+  lower_more counts fits i l = ⊎_elim below at_k (cases_lt i k)
+    where
+      below : i < k → LowerNode (get_or ws i 0) (shelf_of h i) (board (changes_to h news (k + 1)) i) (board news i)
+      below m =
+          let c = count_here in
+          subst (λ b. LowerNode (get_or ws i 0) (shelf_of h i) b (board news i))
+          (sym (ap (λ t. board t i) more ∙ get_or_append_left (changes_to h news k) (difference (shelf_of h k) (board news k) ∷ []) [] i (omega arith))) (reached.lower i m)
 
-    rest : Result ℕ WorkFault
-    rest = judged_from M h.shelves news room (suc k) (used + length (difference (shelf_of h k) (board news k))) (drop (k + 1) xs)
+      here_is : LowerNode (get_or ws k 0) (shelf_of h k) (board (changes_to h news (k + 1)) k) (board news k)
+      here_is =
+          subst (λ b. LowerNode (get_or ws k 0) (shelf_of h k) b (board news k))
+          (sym (ap (λ t. board t k) more ∙ get_or_at (changes_to h news k) (difference (shelf_of h k) (board news k)) [] [] k count_here))
+          (record { changes = difference_changes (shelf_of h k) (board news k) (law.bags k) new_bag; counts = counts; old_rows = old_rows; new_rows = new_rows fits })
 
-    judged_here : judged_from M h.shelves news room k used (drop k xs)
-        ≡ cond (counts_fit (board news k)) (cond (groups_fit M x news) (cond (leb (used + length (difference (shelf_of h k) (board news k))) room) rest (Err (work.Paper k))) (Err (work.Wide k))) (Err (work.Over k))
-    unfolding judged_from rest
-    judged_here = ap (judged_from M h.shelves news room k used) (drop_more xs k d here)
+      at_k : k ≤ i → LowerNode (get_or ws i 0) (shelf_of h i) (board (changes_to h news (k + 1)) i) (board news i)
+      at_k m = let e : i ≡ k = omega arith in subst (λ j. LowerNode (get_or ws j 0) (shelf_of h j) (board (changes_to h news (k + 1)) j) (board news j)) (sym e) here_is
 
-    by_answer : (P : Type 0) → (counts_fit (board news k) ≡ true → groups_fit M x news ≡ true → r ≡ Ok (tally room es) → P) → (counts_fit (board news k) ≡ true → groups_fit M x news ≡ false → r ≡ Err node.Wide → P) → (counts_fit (board news k) ≡ false → r ≡ Err node.Over → P) → P
-    by_answer P good wide over = by (counts_fit (board news k)) refl (groups_fit M x news) refl made.answer
-      where
-        by : (a : Bool) → counts_fit (board news k) ≡ a → (b : Bool) → groups_fit M x news ≡ b → r ≡ cond a (cond b (Ok (tally room es)) (Err node.Wide)) (Err node.Over) → P
-        by true p true q e = good p q e
-        by true p false q e = wide p q e
-        by false p b q e = over p e
+  pub node_more : (sheet' : List ChangeLine) (r : Result ℕ WorkFault) → Step M h news room used k x sheet' r → (n : ℕ) → r ≡ Ok n → Reached (widths M.shows [] xs) h news (k + 1) room sheet' n
+  node_more sheet' r made n e = let t = taken r made.answer n e in record { lower = lower_more t.0 t.1; lines = made.lines n e }
 
-    pub step_over : r ≡ Err node.Over → judged_from M h.shelves news room k used (drop k xs) ≡ Err (work.Over k)
-    step_over e = by_answer _
-        (λ p q a. let z : ◌≡◌ {A = ℕ} 0 1 = cc in absurd (let w : ⊥ = omega arith in w))
-        (λ p q a. let z : ◌≡◌ {A = ℕ} 0 1 = cc in absurd (let w : ⊥ = omega arith in w))
-        (λ p a. judged_here ∙ ap (λ t. cond t (cond (groups_fit M x news) (cond (leb (used + length (difference (shelf_of h k) (board news k))) room) rest (Err (work.Paper k))) (Err (work.Wide k))) (Err (work.Over k))) p)
+module _ {V : Type 0} (M : Measure V) (old new : List Lines) (room used k : ℕ) (x : Node) (xs : List Node) where
+  pub judged_on : (n : ℕ) → Ok n ≡ step_answer M old new room used k x → judged_from M old new room k used (x ∷ xs) ≡ judged_from M old new room (k + 1) n xs
+  unfolding judged_from
+  judged_on n e = by (counts_fit (board new k)) (groups_fit M x new) (leb (used + length (difference (board old k) (board new k))) room) e
+    where
+      s : suc k ≡ k + 1
+      s = omega arith
 
-    pub step_wide : r ≡ Err node.Wide → judged_from M h.shelves news room k used (drop k xs) ≡ Err (work.Wide k)
-    step_wide e = by_answer _
-        (λ p q a. let z : ◌≡◌ {A = ℕ} 0 1 = cc in absurd (let w : ⊥ = omega arith in w))
-        (λ p q a. judged_here ∙ ap₂ (λ t u. cond t (cond u (cond (leb (used + length (difference (shelf_of h k) (board news k))) room) rest (Err (work.Paper k))) (Err (work.Wide k))) (Err (work.Over k))) p q)
-        (λ p a. let z : ◌≡◌ {A = ℕ} 0 1 = cc in absurd (let w : ⊥ = omega arith in w))
-
-    module _ (at : ℕ) (fine : r ≡ Ok at) where
-      counts : counts_fit (board news k) ≡ true
-      counts = by_answer _ (λ p q a. p) (λ p q a. p) (λ p a. let z : ◌≡◌ {A = ℕ} 0 1 = cc in absurd (let w : ⊥ = omega arith in w))
-
-      fits : groups_fit M x news ≡ true
-      fits = by_answer _ (λ p q a. q) (λ p q a. let z : ◌≡◌ {A = ℕ} 0 1 = cc in absurd (let w : ⊥ = omega arith in w)) (λ p a. let z : ◌≡◌ {A = ℕ} 0 1 = cc in absurd (let w : ⊥ = omega arith in w))
-
-      at_is : at ≡ tally room es
-      at_is = by_answer _ (λ p q a. cc) (λ p q a. let z : ◌≡◌ {A = ℕ} 0 1 = cc in absurd (let w : ⊥ = omega arith in w)) (λ p a. let z : ◌≡◌ {A = ℕ} 0 1 = cc in absurd (let w : ⊥ = omega arith in w))
-
-      judged_fits : judged_from M h.shelves news room k used (drop k xs) ≡ cond (leb (used + length (difference (shelf_of h k) (board news k))) room) rest (Err (work.Paper k))
-      judged_fits = judged_here ∙ ap₂ (λ t u. cond t (cond u (cond (leb (used + length (difference (shelf_of h k) (board news k))) room) rest (Err (work.Paper k))) (Err (work.Wide k))) (Err (work.Over k))) counts fits
-
-      pub step_paper : room < at → judged_from M h.shelves news room k used (drop k xs) ≡ Err (work.Paper k)
-      step_paper p =
-          let n = lines in
-          let a = at_is in
-          judged_fits ∙ ap (λ t. cond t rest (Err (work.Paper k))) (lt-leb (used + length (difference (shelf_of h k) (board news k))) room (omega arith))
-
-      pub step_on : at ≤ room → judged_from M h.shelves news room k used (drop k xs) ≡ judged_from M h.shelves news room (k + 1) at (drop (k + 1) xs)
-      unfolding rest
-      step_on p =
-          let n = lines in
-          let a = at_is in
-          let s : suc k ≡ k + 1 = omega arith in
-          let t : used + length (difference (shelf_of h k) (board news k)) ≡ at = omega arith in
-          judged_fits ∙ ap (λ t. cond t rest (Err (work.Paper k))) (le-leb (used + length (difference (shelf_of h k) (board news k))) room (omega arith))
-          ∙ ap₂ (λ i u. judged_from M h.shelves news room i u (drop (k + 1) xs)) s t
-
-      lower_more : (i : ℕ) → i < k + 1 → LowerNode (get_or ws i 0) (shelf_of h i) (board (changes_to h news (k + 1)) i) (board news i)
-      lower_more i l = ⊎_elim below at_k (cases_lt i k)
+      by : (a b c : Bool) → Ok n ≡ cond a (cond b (cond c (Ok (used + length (difference (board old k) (board new k)))) (Err (work.Paper k))) (Err (work.Wide k))) (Err (work.Over k))
+          → cond a (cond b (cond c (judged_from M old new room (suc k) (used + length (difference (board old k) (board new k))) xs) (Err (work.Paper k))) (Err (work.Wide k))) (Err (work.Over k)) ≡ judged_from M old new room (k + 1) n xs
+      by true true true f = ap₂ (λ i m. judged_from M old new room i m xs) s (same f)
         where
-          below : i < k → LowerNode (get_or ws i 0) (shelf_of h i) (board (changes_to h news (k + 1)) i) (board news i)
-          below m =
-              let c = count_here in
-              subst (λ b. LowerNode (get_or ws i 0) (shelf_of h i) b (board news i))
-              (sym (ap (λ t. board t i) more ∙ get_or_append_left (changes_to h news k) (difference (shelf_of h k) (board news k) ∷ []) [] i (omega arith))) (reached.lower i m)
+          same : ◌≡◌ {A = Result ℕ WorkFault} (Ok n) (Ok (used + length (difference (board old k) (board new k)))) → used + length (difference (board old k) (board new k)) ≡ n
+          same f = cc
+      by true true false f = absurd (let z : ◌≡◌ {A = ℕ} 0 1 = cc in let y : ⊥ = omega arith in y)
+      by true false c f = absurd (let z : ◌≡◌ {A = ℕ} 0 1 = cc in let y : ⊥ = omega arith in y)
+      by false b c f = absurd (let z : ◌≡◌ {A = ℕ} 0 1 = cc in let y : ⊥ = omega arith in y)
 
-          here_is : LowerNode (get_or ws k 0) (shelf_of h k) (board (changes_to h news (k + 1)) k) (board news k)
-          here_is =
-              subst (λ b. LowerNode (get_or ws k 0) (shelf_of h k) b (board news k))
-              (sym (ap (λ t. board t k) more ∙ get_or_at (changes_to h news k) (difference (shelf_of h k) (board news k)) [] [] k count_here))
-              (record { changes = difference_changes (shelf_of h k) (board news k) (law.bags k) new_bag; counts = counts; old_rows = old_rows; new_rows = new_rows fits })
+  pub judged_off : (f : WorkFault) → Err f ≡ step_answer M old new room used k x → judged_from M old new room k used (x ∷ xs) ≡ Err f
+  unfolding judged_from
+  judged_off f e = by (counts_fit (board new k)) (groups_fit M x new) (leb (used + length (difference (board old k) (board new k))) room) e
+    where
+      again : {g : WorkFault} → ◌≡◌ {A = Result ℕ WorkFault} (Err f) (Err g) → ◌≡◌ {A = Result ℕ WorkFault} (Err g) (Err f)
+      again e = sym e
 
-          at_k : k ≤ i → LowerNode (get_or ws i 0) (shelf_of h i) (board (changes_to h news (k + 1)) i) (board news i)
-          at_k m = let e : i ≡ k = omega arith in subst (λ j. LowerNode (get_or ws j 0) (shelf_of h j) (board (changes_to h news (k + 1)) j) (board news j)) (sym e) here_is
-
-      pub node_more : at ≤ room → (starts' : List ℕ) → ((i : ℕ) → i ≤ k → get_or starts' i 0 ≡ get_or starts i 0) → get_or starts' (k + 1) 0 ≡ at → Reached M xs ws h net' (k + 1) room sheet' at starts'
-      node_more p starts' same last =
-          let a = at_is in
-          let es_is : with_change (changes_to h news k) (difference (shelf_of h k) (board news k)) ≡ flattened 0 (changes_to h news (k + 1)) = ap (flattened 0) (sym more) in
-          let on : OnSheet room sheet' at (flattened 0 (changes_to h news (k + 1))) = subst (λ t. OnSheet room sheet' at t) es_is (subst (λ n. OnSheet room sheet' n (with_change (changes_to h news k) (difference (shelf_of h k) (board news k)))) (sym a) (made.on_sheet counts fits)) in
-          let m = on.many in
-          record {
-            lower = lower_more;
-            filled = record { on_sheet = on; room_enough = omega arith };
-            runs = λ i l. ⊎_elim (below i) (at_end i l on.many p) (cases_lt i (k + 1));
-          }
-        where
-          below : (i : ℕ) → i < k + 1 → get_or starts' i 0 ≡ length (flattened 0 (take i (changes_to h news (k + 1))))
-          below i l =
-              let c = count_here in
-              same i (omega arith) ∙ reached.runs i (omega arith)
-              ∙ ap (λ t. length (flattened 0 t)) (sym (ap (take i) more ∙ take-append-le i (changes_to h news k) (difference (shelf_of h k) (board news k) ∷ []) (omega arith)))
-
-          at_end : (i : ℕ) → i ≤ k + 1 → at ≡ tally room (flattened 0 (changes_to h news (k + 1))) → at ≤ room → k + 1 ≤ i → get_or starts' i 0 ≡ length (flattened 0 (take i (changes_to h news (k + 1))))
-          at_end i l m p g =
-              let e : i ≡ k + 1 = omega arith in
-              let n = ap length more ∙ length-append (changes_to h news k) (difference (shelf_of h k) (board news k) ∷ []) in
-              let c = count_here in
-              let all : take i (changes_to h news (k + 1)) ≡ changes_to h news (k + 1) = take_all i (changes_to h news (k + 1)) (omega arith) in
-              let u : at ≡ length (flattened 0 (changes_to h news (k + 1))) = omega arith in
-              ap (λ j. get_or starts' j 0) e ∙ last ∙ u ∙ ap (λ t. length (flattened 0 t)) (sym all)
+      by : (a b c : Bool) → Err f ≡ cond a (cond b (cond c (Ok (used + length (difference (board old k) (board new k)))) (Err (work.Paper k))) (Err (work.Wide k))) (Err (work.Over k))
+          → cond a (cond b (cond c (judged_from M old new room (suc k) (used + length (difference (board old k) (board new k))) xs) (Err (work.Paper k))) (Err (work.Wide k))) (Err (work.Over k)) ≡ Err f
+      by true true true g = absurd (let z : ◌≡◌ {A = ℕ} 0 1 = cc in let y : ⊥ = omega arith in y)
+      by true true false g = again g
+      by true false c g = again g
+      by false b c g = again g

@@ -1,3 +1,3 @@
 pub mod Faults
 pub mod Working
-pub mod Reaching
+pub mod Changes

@@ -32,11 +32,11 @@ module _ {V : Type 0} (M : Measure V) where
   abbrev pub groups_fit : Node → List Lines → Bool
   groups_fit (Base w) bs = true
   groups_fit (Keep c a relation operand) bs = true
-  groups_fit (Pick c n columns) bs = true
-  groups_fit (Pair l r n pairs) bs = true
+  groups_fit (Pick c columns) bs = true
+  groups_fit (Pair l r pairs) bs = true
   groups_fit (Both l r) bs = true
   groups_fit (Less l r) bs = true
-  groups_fit (Total c j n columns) bs = all_groups_fit M j (take n columns) (board bs c)
+  groups_fit (Total c j columns) bs = all_groups_fit M j (take columns.count columns.places) (board bs c)
 
   unfoldable pub judged_from : List Lines → List Lines → ℕ → ℕ → ℕ → List Node → Result ℕ WorkFault
   judged_from old new room k used [] = Ok used

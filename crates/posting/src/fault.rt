@@ -4,6 +4,7 @@ ghost use Rattle.posting.specs.Faults.{fault_at};
 use delta::fault::NodeFault;
 
 // Why the changes of a posting cannot be made, and at which node.
+// No struct of a node and a cause: `Paper` is no fault of a node's bag, so the causes would need an enum around `NodeFault`.
 #[derive(Clone, Copy, PartialEq, Eq, Debug)]
 pub enum WorkFault {
     // A row of the node would have more copies than a line can count.

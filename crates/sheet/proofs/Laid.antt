@@ -4,18 +4,24 @@
 --     run_long, read_run    how long a run is, and a line of it read on the sheet
 --     flattened_more        the change of one node more
 --     blank_is_laid         a blank sheet has no line
-use Rattle.std.proofs.Common.{◌≡◌, ℕ, suc, ◌+◌, ◌-◌, ◌<◌, ◌≤◌, min, List, [], ◌∷◌, ◌++◌, length, get_or, take, drop, set, replicate, sym, refl, ap, ◌∙◌, ap₂, arith}
+--     laid_fits             lines that fit, and blanks behind
+--     page_none             nor has a blank page
+--     page_more, page_full, page_lost      a line more on a page, where there is place for it, none for it, and none any more
+--     told_fits, told_lost  lines that are told fit the page, and others do not
+use Rattle.std.proofs.Common.{◌≡◌, ℕ, suc, Bool, true, false, cond, Some, None, Option, nat_le, ◌+◌, ◌-◌, ◌<◌, ◌≤◌, min, List, [], ◌∷◌, ◌++◌, length, get_or, take, drop, set, replicate, sym, refl, ap, ◌∙◌, ap₂, arith}
 use Rattle.std.proofs.lemmas.List.{append_assoc, append-nil, length-append, length-map, length-set, length-take, length-drop, take_all, take-append-le, set-append_right, get_or_append_left, get_or-take, get_or-drop, get_or-map}
+use Rattle.std.proofs.lemmas.Bool.{leb-true, le-leb}
+use Rattle.std.proofs.lemmas.Bool.Decides.{leb_tells}
 use Rattle.bag.specs.declared.lines.ChangeLine.{ChangeLine}
 use Rattle.bag.specs.Bag.{Line, Lines}
 use Rattle.bag.specs.Lines.{blank_change_line}
-use Rattle.sheet.specs.Sheets.{change_line, of_node, flattened, laid, OnSheet, RunOf}
+use Rattle.sheet.specs.Sheets.{change_line, of_node, flattened, laid, lines_told, OnSheet, OnPage, RunOf}
 
 one_longer : (es : List ChangeLine) (l : ChangeLine) → length (es ++ (l ∷ [])) ≡ suc (length es)
 one_longer es l = length-append es (l ∷ []) ∙ omega arith
 
 -- where the lines fit
-laid_fits : (len room : ℕ) (es : List ChangeLine) → length es ≤ room → laid len room es ≡ es ++ replicate (len - length es) blank_change_line
+pub laid_fits : (len room : ℕ) (es : List ChangeLine) → length es ≤ room → laid len room es ≡ es ++ replicate (len - length es) blank_change_line
 unfolding laid
 laid_fits len room es h =
     let m : min room (length es) ≡ length es = omega arith in
@@ -117,3 +123,71 @@ flattened_more k [] d = let z : k ≡ k + 0 = omega arith in append-nil (of_node
 flattened_more k (x ∷ ds) d =
     let z : suc k + length ds ≡ k + suc (length ds) = omega arith in
     ap (λ t. of_node k x ++ t) (flattened_more (suc k) ds d ∙ ap (λ n. flattened (suc k) ds ++ of_node n d) z) ∙ sym (append_assoc (of_node k x) (flattened (suc k) ds) (of_node (k + suc (length ds)) d))
+
+-- what a page tells
+pub told_fits : (places used : ℕ) (es : List ChangeLine) → Some used ≡ lines_told places es → (length es ≤ places) × (used ≡ length es)
+told_fits places used es e = by (nat_le (length es) places) refl e
+  where
+    by : (b : Bool) → nat_le (length es) places ≡ b → Some used ≡ cond b (Some (length es)) None → (length es ≤ places) × (used ≡ length es)
+    by true t f = (leb-true (length es) places t, inner f)
+      where
+        inner : ◌≡◌ {A = Option ℕ} (Some used) (Some (length es)) → used ≡ length es
+        inner g = cc
+    by false t f = absurd (let z : ◌≡◌ {A = ℕ} 0 1 = cc in let y : ⊥ = omega arith in y)
+
+told_some : (places : ℕ) (es : List ChangeLine) (n : ℕ) → n ≡ length es → length es ≤ places → Some n ≡ lines_told places es
+told_some places es n e h = ap Some e ∙ sym (ap (λ b. cond b (Some (length es)) None) (le-leb (length es) places h))
+
+too_many : (n places : ℕ) → places < n → nat_le n places ≡ false
+too_many n places h = grind (arith, leb_tells n places)
+
+told_none : (places : ℕ) (es : List ChangeLine) → places < length es → None ≡ lines_told places es
+told_none places es h = sym (ap (λ b. cond b (Some (length es)) None) (too_many (length es) places h))
+
+lost_by : (n places : ℕ) (b : Bool) → nat_le n places ≡ b → None ≡ cond b (Some n) None → places < n
+lost_by n places true e f = absurd (let z : ◌≡◌ {A = ℕ} 0 1 = cc in let y : ⊥ = omega arith in y)
+lost_by n places false e f = grind (arith, leb_tells n places, e)
+
+pub told_lost : (places : ℕ) (es : List ChangeLine) → None ≡ lines_told places es → places < length es
+told_lost places es e = lost_by (length es) places (nat_le (length es) places) refl e
+
+module _ (page : List ChangeLine) (es : List ChangeLine) (l : ChangeLine) where
+  pub page_more : (used : ℕ) → OnPage page (Some used) es → used < length page → OnPage (set page used l) (Some (used + 1)) (es ++ (l ∷ []))
+  page_more used o h =
+      let t = told_fits (length page) used es o.told in
+      let f : length es < length page = omega (arith, t.0, t.1, h) in
+      let long : length (set page used l) ≡ length page = length-set page used l in
+      let one = one_longer es l in
+      record {
+        are =
+            ap (λ x. set x used l) o.are ∙ ap (λ k. set (laid (length page) (length page) es) k l) t.1
+            ∙ laid_more (length page) (length page) es l f (omega arith) ∙ ap (λ n. laid n n (es ++ (l ∷ []))) (sym long);
+        told = told_some (length (set page used l)) (es ++ (l ∷ [])) (used + 1) (omega (arith, t.1, one)) (omega (arith, one, long, f));
+      }
+
+  pub page_full : (used : ℕ) → OnPage page (Some used) es → length page ≤ used → OnPage page None (es ++ (l ∷ []))
+  page_full used o h =
+      let t = told_fits (length page) used es o.told in
+      let one = one_longer es l in
+      let f : length page ≤ length es = omega (arith, t.1, h) in
+      record {
+        are = o.are ∙ sym (laid_full (length page) (length page) es l f);
+        told = told_none (length page) (es ++ (l ∷ [])) (omega (arith, one, f));
+      }
+
+  pub page_lost : OnPage page None es → OnPage page None (es ++ (l ∷ []))
+  page_lost o =
+      let f = lost_by (length es) (length page) (nat_le (length es) (length page)) refl o.told in
+      let one = one_longer es l in
+      record {
+        are = o.are ∙ sym (laid_full (length page) (length page) es l (omega (arith, f)));
+        told = told_none (length page) (es ++ (l ∷ [])) (omega (arith, one, f));
+      }
+
+pub page_none : (page : List ChangeLine) → page ≡ replicate (length page) blank_change_line → OnPage page (Some 0) []
+page_none page e =
+    let z : length page - 0 ≡ length page = omega arith in
+    record {
+      are = e ∙ sym (laid_fits (length page) (length page) [] (omega arith) ∙ ap (λ n. replicate n blank_change_line) z);
+      told = told_some (length page) [] 0 refl (omega arith);
+    }

@@ -1,6 +1,4 @@
 #![tactic(auto)]
 
-// A lent sheet of change lines: how it is blanked and filled, line by line (`filling`), and how the lines of one node are read on
-// it (`run`). What a sheet holds meanwhile is said in specs/.
+// A lent sheet of change lines: how it is blanked (`filling`). What a sheet and a part of it hold while they are filled is said in specs/.
 pub mod filling;
-pub mod run;

@@ -1,70 +1,67 @@
-use Rattle.std.proofs.Common.{◌≡◌, ℕ, ◌+◌, ◌<◌, ◌≤◌, List, [], ◌∷◌, ◌++◌, length, get_or, take, ℤ, pos, sym, ap, ◌∙◌, subst, ap₂, arith, w32, SFits, to_z, of_z, rules}
-use Rattle.std.proofs.lemmas.List.{take_all, take_more, get_or-map, length-map}
-use Rattle.std.proofs.lemmas.Int.{to_z-of_z}
-use Rattle.bag.specs.declared.lines.ChangeLine.{ChangeLine}
-use Rattle.bag.specs.Order.{Row}
-use Rattle.bag.specs.Bag.{Line, Lines}
+use Rattle.std.proofs.Common.{◌≡◌, true, [], ◌∷◌, length, take, arith, sym, subst}
+use Rattle.std.proofs.lemmas.List.{length-append, take_all}
+use Rattle.std.proofs.lemmas.Result.{err_from_is_err_and}
+use Rattle.std.proofs.lemmas.Slice.Zip.{zip_turn, zip_end}
+use Rattle.bag.specs.Bag.{every_line}
 use Rattle.stock.specs.Holding.{shelf_of}
-use Rattle.sheet.specs.Sheets.{change_line, of_node, OnSheet}
-use Rattle.delta_groups.specs.Groups.{RoomForGroup}
-use Rattle.delta_groups.specs.Totals.{Ready, Totalled}
-use Rattle.delta_groups.proofs.Exchanged.{totalled_none}
+use Rattle.delta.specs.Writing.{Written}
+use Rattle.delta.proofs.Steps.{same_itself, same_then}
+use Rattle.delta_groups.specs.Totals.{exchanges, fit_after, Refused}
+use Rattle.delta_groups.proofs.ReadLines.{as_long}
+use Rattle.delta_groups.proofs.Exchanged.{groups_none, group_written, group_refused}
 use Rattle.delta_groups.proofs.exchange.exchange_groups.Goals as goal
 
-no_line : Line
-no_line = ([], pos 0)
+pub loop-group-init : goal.loop-group-init
+loop-group-init g c = (same_itself c.args.writer.now, λ xs delta room ready was. groups_none g.M.Measure.model _ _ delta g.S.Stock.meaning c.args.writer.now was)
 
-no_change : ChangeLine
-no_change = record { node = 0; row = []; change = pos 0 }
-
-pub loop-i-init : goal.loop-i-init
-loop-i-init g c =
+pub loop-group-preserved : goal.loop-group-preserved
+loop-group-preserved g c =
     let M = g.M.Measure.model in
-    let V = g.row.M-Value.Denot in
-    let h = g.S.Stock.meaning c.args.stock.now in
-    let n = c.args.width in
-    let own = shelf_of h c.args.node in
-    λ (es : List ChangeLine) (xs : Lines) (delta : Row → ℤ × V) (s : g.S.Stock.sound c.args.stock.now) (room : RoomForGroup M n) (is : c.args.groups.now ≡ of_node 0 xs) (fits : length xs ≤ length c.args.values.now)
-    (deltas : (i : ℕ) (e : Line) (z : V) → i < length xs → ◌≡◌ {A = ℤ × V} (delta (get_or xs i e).0) ((get_or xs i e).1, get_or c.args.values.now i z)) (ready : (i : ℕ) (e : Line) → i < length xs → Ready M n own delta (get_or xs i e).0) (o : OnSheet c.args.room c.args.sheet.now c.args.used es).
-    totalled_none M n delta h c.args.node c.args.room es c.args.sheet.now c.args.used o
+    let meaning = g.S.Stock.meaning in
+    let n = length c.args.grouping.now.columns.now in
+    let v = c.args.writer.now in
+    let w = c.loop-group.writer in
+    let u = c.exchange_group.new.writer in
+    let i = length c.loop-group.yielded in
+    let own = shelf_of (meaning v.stock.now) v.node in
+    let same = c.loop-group.invariant.0 in
+    let turn = zip_turn c.args.groups.now c.args.values.now c.loop-group.yielded _ _ c.next.new.self _ (cc) (cc) c.loop-group.yielded_by (c.in-Some.group, c.in-Some.worth) c.in-Some.is c.next.ensures.steps in (
+      same_then v w u same c.exchange_group.ensures.same,
+      λ xs delta room ready was.
+          let before = c.loop-group.invariant.1 xs delta room ready was in
+          let done = group_written M n meaning v w same delta xs c.args.groups.now c.args.values.now ready i c.in-Some.group.now c.in-Some.worth.now turn.0 turn.2 turn.3 u before.1
+          (λ here adds. c.in_ok-exchange_group.ensures.after (exchanges M n own delta (take i xs)) delta room here adds before.0) in
+          subst (λ m. Written meaning u (exchanges M n own delta (take m xs)) × (every_line (fit_after M n own delta) (take m xs) ≡ true)) (sym (length-append c.loop-group.yielded ((c.in-Some.group, c.in-Some.worth) ∷ []))) done,
+    )
 
-pub loop-i-preserved : goal.loop-i-preserved
-unfolding no_change
-loop-i-preserved g c =
+pub returns-in_err-exchange_group-clause-after : goal.returns-in_err-exchange_group-clause-after
+returns-in_err-exchange_group-clause-after g c xs delta room ready was =
     let M = g.M.Measure.model in
-    let V = g.row.M-Value.Denot in
-    let h = g.S.Stock.meaning c.args.stock.now in
-    let n = c.args.width in
-    let own = shelf_of h c.args.node in
-    λ (es : List ChangeLine) (xs : Lines) (delta : Row → ℤ × V) (s : g.S.Stock.sound c.args.stock.now) (room : RoomForGroup M n) (is : c.args.groups.now ≡ of_node 0 xs) (fits : length xs ≤ length c.args.values.now)
-    (deltas : (i : ℕ) (e : Line) (z : V) → i < length xs → ◌≡◌ {A = ℤ × V} (delta (get_or xs i e).0) ((get_or xs i e).1, get_or c.args.values.now i z)) (ready : (i : ℕ) (e : Line) → i < length xs → Ready M n own delta (get_or xs i e).0) (o : OnSheet c.args.room c.args.sheet.now c.args.used es).
-    let i = c.loop-i.i in
-    let was = c.loop-i.invariant es xs delta s room is fits deltas ready o in
-    let long = ap length is ∙ length-map xs (change_line 0) in
-    let i-fits : i < length xs = let t = c.loop-i-test.true in let m = c.min-i-end.ensures in omega arith in
-    let l = get_or c.args.groups.now i no_change in
-    let same : l ≡ change_line 0 (get_or xs i no_line) = ap (λ (t : List ChangeLine). get_or t i no_change) is ∙ get_or-map (change_line 0) xs i no_line no_change i-fits in
-    let change-fits : SFits w32 l.change = search rules in
-    let row = ap (λ (x : ChangeLine). x.row) same in
-    let net = to_z-of_z w32 l.change change-fits ∙ ap (λ (x : ChangeLine). x.change) same in
-    let z = c.index-values-i.result in
-    let here : ◌≡◌ {A = ℤ × V} (delta l.row) (to_z w32 (of_z w32 l.change), z) = ap delta row ∙ deltas i no_line z i-fits ∙ ap₂ {C = ℤ × V} (λ x y. (x, y)) (sym net) (sym c.index-values-i.is) in
-    let line : take i xs ++ ((l.row, to_z w32 (of_z w32 l.change)) ∷ []) ≡ take (i + 1) xs = ap₂ (λ (x : Row) (y : ℤ). take i xs ++ ((x, y) ∷ [])) row net ∙ sym (take_more xs i no_line i-fits) in
-    subst (Totalled M n delta h c.args.node c.args.room c.exchange_group-walk.new.sheet c.exchange_group-walk.result.walk.used c.exchange_group-walk.result.walk.over c.exchange_group-walk.result.wide es) line
-    (c.exchange_group-walk.ensures.after es (take i xs) delta s room (subst (Ready M n own delta) (sym row) (ready i no_line i-fits)) here was)
+    let meaning = g.S.Stock.meaning in
+    let n = length c.args.grouping.now.columns.now in
+    let v = c.args.writer.now in
+    let w = c.loop-group.writer in
+    let u = c.exchange_group.new.writer in
+    let i = length c.loop-group.yielded in
+    let own = shelf_of (meaning v.stock.now) v.node in
+    let same = c.loop-group.invariant.0 in
+    let turn = zip_turn c.args.groups.now c.args.values.now c.loop-group.yielded _ _ c.next.new.self _ (cc) (cc) c.loop-group.yielded_by (c.in-Some.group, c.in-Some.worth) c.in-Some.is c.next.ensures.steps in
+    let before = c.loop-group.invariant.1 xs delta room ready was in
+    let f = c.in_err-exchange_group.field-0.0 in
+    let told = err_from_is_err_and c.from_residual.result c.from_residual.ensures.1 in
+    let all : Refused meaning v (exchanges M n own delta xs) (every_line (fit_after M n own delta) xs) f =
+    group_refused M n meaning v w same delta xs c.args.groups.now c.args.values.now ready i c.in-Some.group.now c.in-Some.worth.now turn.0 turn.2 turn.3 f
+    (λ here adds. c.in_err-exchange_group.ensures.after (exchanges M n own delta (take i xs)) delta room here adds before.0) in
+    rw (told.1, told.2) all
 
-pub returns : goal.returns
-returns g c =
+pub returns-clause-after : goal.returns-clause-after
+returns-clause-after g c xs delta room ready was =
     let M = g.M.Measure.model in
-    let V = g.row.M-Value.Denot in
-    let h = g.S.Stock.meaning c.args.stock.now in
-    let n = c.args.width in
-    let own = shelf_of h c.args.node in
-    record {
-      long = search rules;
-      after = λ (es : List ChangeLine) (xs : Lines) (delta : Row → ℤ × V) (s : g.S.Stock.sound c.args.stock.now) (room : RoomForGroup M n) (is : c.args.groups.now ≡ of_node 0 xs) (fits : length xs ≤ length c.args.values.now)
-          (deltas : (i : ℕ) (e : Line) (z : V) → i < length xs → ◌≡◌ {A = ℤ × V} (delta (get_or xs i e).0) ((get_or xs i e).1, get_or c.args.values.now i z)) (ready : (i : ℕ) (e : Line) → i < length xs → Ready M n own delta (get_or xs i e).0) (o : OnSheet c.args.room c.args.sheet.now c.args.used es).
-          let long = ap length is ∙ length-map xs (change_line 0) in
-          let all : take c.loop-i.i xs ≡ xs = take_all c.loop-i.i xs (let t = c.loop-i-test.false in let m = c.min-i-end.ensures in omega arith) in
-          subst (Totalled M n delta h c.args.node c.args.room c.loop-i.sheet c.loop-i.walk.walk.used c.loop-i.walk.walk.over c.loop-i.walk.wide es) all (c.loop-i.invariant es xs delta s room is fits deltas ready o);
-    }
+    let meaning = g.S.Stock.meaning in
+    let n = length c.args.grouping.now.columns.now in
+    let v = c.args.writer.now in
+    let own = shelf_of (meaning v.stock.now) v.node in
+    let end = zip_end c.args.groups.now c.args.values.now c.loop-group.yielded _ _ c.next.new.self _ (cc) (cc) c.loop-group.yielded_by c.in-None.is c.next.ensures.steps in
+    subst (λ ys. Written meaning c.loop-group.writer (exchanges M n own delta ys) × (every_line (fit_after M n own delta) ys ≡ true))
+    (take_all (length c.loop-group.yielded) xs (omega (arith, end, ready.places, as_long c.args.groups.now 0 xs ready.lines)))
+    (c.loop-group.invariant.1 xs delta room ready was)

@@ -14,9 +14,8 @@ returns g c =
     let s = c.args.stock.now in
     let net = c.args.net.now in
     let f : SFits w32 net.change = search rules in
-    λ (sound : g.S.Stock.sound s).
     let h = g.S.Stock.meaning s in
-    let there = c.count.ensures.answer sound in
-    let are = count_is_copies h (g.S.Stock.lawful s sound) net.node net.row in
-    let most = (g.S.Stock.lawful s sound).counts net.node net.row in
+    let there = c.count.ensures.answer in
+    let are = count_is_copies h (g.S.Stock.lawful s) net.node net.row in
+    let most = (g.S.Stock.lawful s).counts net.node net.row in
     below-zero (to_z w64 (of_z w64 (to_z w64 c.count.result +ℤ to_z w64 (of_z w64 (to_z w32 (of_z w32 net.change)))))) (count (shelf_of h net.node) net.row +ℤ net.change) (omega (arith, ints))
