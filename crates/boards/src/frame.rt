@@ -9,8 +9,5 @@ pub fn first_frame(input: &[u8]) -> Option<(&[u8], &[u8])>
         return None;
     };
     let length = u16::from_be_bytes([*high, *low]) as usize;
-    if rest.len() < length {
-        return None;
-    }
-    Some(rest.split_at(length))
+    rest.split_at_checked(length)
 }

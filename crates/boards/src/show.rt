@@ -1,5 +1,4 @@
 use crate::frame::first_frame;
-use message::record::Record;
 use message::record_list::RecordList;
 use message::round_trip::rewrite;
 use plan::plan::Plan;
@@ -9,16 +8,6 @@ const SHOWN_COLUMNS: u8 = 1;
 
 // No frame is longer, so every message finds room here when it is written again.
 const LONGEST_FRAME: usize = 65535;
-
-fn show_record(rt: &HostRuntime, record: &Record) -> anyhow::Result<()> {
-    let way = if record.take { "take" } else { "put" };
-    print!(rt; "node {} {} {} of", record.node, way, record.count)?;
-    for column in record.row.iter() {
-        print!(rt; " {}", *column)?;
-    }
-    println!(rt)?;
-    Ok(())
-}
 
 // Reads a message, writes its records again, and says whether the bytes are the same. By the contract of `rewrite` they always
 // are, and it never refuses here: the message was read, and no message is longer than the buffer. The program looks all the same.
@@ -44,16 +33,12 @@ fn show_message(rt: &HostRuntime, number: usize, message: &[u8]) -> anyhow::Resu
             let records = list.records();
             println!(rt; "message {number} records {}", records.len())?;
             for record in records {
-                show_record(rt, record)?;
+                println!(rt; "{record}")?;
             }
             show_rewritten(rt, number, message)
         }
         Err(fault) => {
-            println!(rt;
-                "message {number} refused {} at {}",
-                fault.number(),
-                fault.place()
-            )?;
+            println!(rt; "message {number} {fault}")?;
             Ok(())
         }
     }
@@ -76,12 +61,11 @@ fn show_plan(rt: &HostRuntime, bytes: &[u8]) -> anyhow::Result<bool> {
 // Shows message after message, to the end or to a frame that is not whole.
 fn show_messages(rt: &HostRuntime, messages: &[u8]) -> anyhow::Result<()> {
     let mut left = messages;
-    for number in 1..messages.len() {
-        let Some((message, behind)) = first_frame(left) else {
-            return Ok(());
-        };
-        left = behind;
+    let mut number = 1;
+    while let Some((message, behind)) = first_frame(left) {
         show_message(rt, number, message)?;
+        left = behind;
+        number += 1;
     }
     Ok(())
 }
