@@ -73,6 +73,7 @@ impl<'a, S: Stock, M: Measure> Posting<'a, S, M> {
 
 // The change of every node on the sheet, from node 0 upwards, or the first refusal. The stock keeps the old boards; `nets` are the
 // movements of all bases, by node and row.
+// The parameters stay apart, as a caller would put a `Posting` together for this one call.
 pub fn work_out<S: Stock, M: Measure>(
     stock: &S,
     measure: &M,
