@@ -3,3 +3,4 @@ pub mod Appended
 pub mod Steps
 pub mod Finished
 pub mod Zeros
+mod UpToOver

@@ -1,6 +1,8 @@
 -- One line more of a node's change. Assumes nothing.
 --     every-++, over_more      the test of a count at one line more
 --     over_front               too many copies at the front of a change are too many
+--     one_over                 the test of a count at one line alone
+--     answer_none, answer_one  what is told of a change of 0, and of another
 --     same_itself, same_then   the task of a writer stays, from call to call
 --     too_many_before          what is too much for the writer is too much for the one it was
 --     front_too_many           what is too much at the front of a change is too much, also for the writer that the writer was
@@ -9,7 +11,7 @@
 --     written_same             a change of 0 leaves no line
 --     row_too_many             a row with too many copies
 --     some_line                a line of a canonical list is not of 0 copies
-use Rattle.std.proofs.Common.{◌≡◌, ℕ, zero, suc, ◌<◌, Bool, true, false, cond, not, ◌||◌, List, [], ◌∷◌, ◌++◌, length, get_or, replicate, ℤ, pos, ◌+ℤ◌, Some, sym, refl, ap, ◌∙◌, subst, ap₂, arith}
+use Rattle.std.proofs.Common.{◌≡◌, ℕ, zero, suc, ◌<◌, Bool, true, false, cond, not, ◌||◌, List, [], ◌∷◌, ◌++◌, length, get_or, replicate, ℤ, pos, ◌+ℤ◌, Some, Ok, Err, sym, refl, ap, ◌∙◌, subst, ap₂, arith}
 use Rattle.std.proofs.lemmas.List.{append-nil, map-append}
 use Rattle.bag.specs.declared.lines.ChangeLine.{ChangeLine}
 use Rattle.bag.specs.Order.{Row}
@@ -22,7 +24,7 @@ use Rattle.delta.specs.declared.fault.NodeFault.{NodeFault}
 use Rattle.delta.specs.declared.fault.NodeFault.TheVariants.{Over}
 use Rattle.delta.specs.declared.writer.ChangeWriter.{ChangeWriter}
 use Rattle.delta.specs.NodeChange.{within_count, over_at}
-use Rattle.delta.specs.Writing.{SameTask, Written, TooMany}
+use Rattle.delta.specs.Writing.{SameTask, Written, TooMany, write_answer}
 
 every-++ : (f : Row → ℤ → Bool) (xs : Lines) (e : Line) → not (every_line f (xs ++ (e ∷ []))) ≡ not (every_line f xs) || not (f e.0 e.1)
 unfolding every_line
@@ -51,6 +53,17 @@ every_front f (x ∷ xs) ys h = by (f x.0 x.1) h (every_front f xs ys)
 
 pub over_front : (old d e : Lines) → over_at old d ≡ true → over_at old (d ++ e) ≡ true
 over_front old d e h = every_front (λ q n. within_count (count old q +ℤ n)) d e h
+
+pub one_over : (old : Lines) (r : Row) (n : ℤ) → is_zero n ≡ false → over_at old (with_line r n []) ≡ not (within_count (count old r +ℤ n))
+unfolding every_line
+one_over old r n z = ap (λ t. over_at old (cond t [] ((r, n) ∷ []))) z ∙ over_more old [] (r, n)
+
+pub answer_none : (old : Lines) (r : Row) (n : ℤ) → n ≡ pos 0 → Ok tt ≡ write_answer old (with_line r n [])
+unfolding every_line
+answer_none old r n z = ap (λ m. write_answer old (with_line r m [])) (sym z)
+
+pub answer_one : (old : Lines) (r : Row) (n : ℤ) (t : Bool) → is_zero n ≡ false → not (within_count (count old r +ℤ n)) ≡ t → cond t (Err Over) (Ok tt) ≡ write_answer old (with_line r n [])
+answer_one old r n t z e = ap (λ x. cond x (Err Over) (Ok tt)) (sym (one_over old r n z ∙ e))
 
 module _ {S : Type 0} where
   pub same_itself : (v : ChangeWriter S) → SameTask v v

@@ -4,7 +4,10 @@
 --     TooMany w d f           some line of d does, and that is what f tells
 --     Wrote v w d r           the answer r where v was to write the lines of d: they are written, as w, or there are too many copies
 --     without_zeros xs        the lines of xs whose number is not 0
-use Rattle.std.specs.Prelude.{◌≡◌, true, false, [], ◌∷◌, length, Result, MatchResult}
+--     write_answer old d      what is told where the lines d are to be written of a node whose old bag is `old`: Over if one of them brings
+--                             its row to a count above 65,535
+--     up_to_over old xs       the lines of xs whose number is not 0, up to the first that brings its row to such a count, that line too
+use Rattle.std.specs.Prelude.{◌≡◌, true, false, cond, [], ◌∷◌, length, Ok, Err, Result, MatchResult}
 use Rattle.bag.specs.Bag.{Lines, with_line}
 use Rattle.stock.specs.Holding.{Holding, shelf_of}
 use Rattle.sheet.specs.Sheets.{of_node, OnPage}
@@ -34,3 +37,10 @@ module _ {S : Type 0} (meaning : S → Holding) where
 unfoldable pub without_zeros : Lines → Lines
 without_zeros [] = []
 without_zeros (e ∷ xs) = with_line e.0 e.1 (without_zeros xs)
+
+abbrev pub write_answer : Lines → Lines → Result (Unit {0}) NodeFault
+write_answer old d = cond (over_at old d) (Err Over) (Ok tt)
+
+unfoldable pub up_to_over : Lines → Lines → Lines
+up_to_over old [] = []
+up_to_over old (e ∷ xs) = with_line e.0 e.1 (cond (over_at old (with_line e.0 e.1 [])) [] (up_to_over old xs))

@@ -5,7 +5,7 @@ ghost use Rattle.bag.specs.Lines.{blank_change_line};
 ghost use Rattle.stock.specs.Holding.{shelf_of};
 ghost use Rattle.sheet.specs.Sheets.{of_node, OnPage};
 ghost use Rattle.delta.specs.NodeChange.{within_count};
-ghost use Rattle.delta.specs.Writing.{SameTask, Written, Wrote, without_zeros};
+ghost use Rattle.delta.specs.Writing.{SameTask, Written, Wrote, without_zeros, write_answer, up_to_over};
 
 use crate::fault::NodeFault;
 use bag::lines::ChangeLine;
@@ -70,28 +70,35 @@ impl<'a, S: Stock> ChangeWriter<'a, S> {
     }
 
     // Writes the change of a row, unless it is 0. A page without a place for it ends no change: a row with too many copies comes first.
+    // The line of such a row is written too, so one rule says what stands on the page, whatever the answer.
     pub fn append(&mut self, row: &Row, change: i32) -> Result<(), NodeFault>
         ensures same { SameTask self.old self.new }
+        ensures on_page { (es : List ChangeLine) → OnPage self.old.page.now self.old.lines es → OnPage self.new.page.now self.new.lines (es ++ of_node self.old.node (with_line row.now change [])) }
+        ensures answer { result ≡ write_answer (shelf_of (S.Stock.meaning self.old.stock.now) self.old.node) (with_line row.now change []) }
         ensures after { (d : Lines) → Written S.Stock.meaning self.old d → Wrote S.Stock.meaning self.old self.new (d ++ with_line row.now change []) result }
     {
         if change == 0 {
             return Ok(());
         }
-        if is_over(self.stock, self.node, row, change) {
-            return Err(NodeFault::Over);
-        }
+        let over = is_over(self.stock, self.node, row, change);
         let line = ChangeLine {
             node: self.node,
             row: *row,
             change,
         };
         self.put(line);
+        if over {
+            return Err(NodeFault::Over);
+        }
         Ok(())
     }
 
-    // Writes the changes of rows one by one, behind what is written, but none that is 0.
+    // Writes the changes of rows one by one, behind what is written, but none that is 0. The first row with too many copies ends it, when
+    // its line is written.
     pub fn append_all(&mut self, lines: &[ChangeLine]) -> Result<(), NodeFault>
         ensures same { SameTask self.old self.new }
+        ensures on_page { (es : List ChangeLine) (c : ℕ) (xs : Lines) → lines.now ≡ of_node c xs → OnPage self.old.page.now self.old.lines es → OnPage self.new.page.now self.new.lines (es ++ of_node self.old.node (up_to_over (shelf_of (S.Stock.meaning self.old.stock.now) self.old.node) xs)) }
+        ensures answer { (c : ℕ) (xs : Lines) → lines.now ≡ of_node c xs → result ≡ write_answer (shelf_of (S.Stock.meaning self.old.stock.now) self.old.node) (without_zeros xs) }
         ensures after { (c : ℕ) (d xs : Lines) → lines.now ≡ of_node c xs → Written S.Stock.meaning self.old d → Wrote S.Stock.meaning self.old self.new (d ++ without_zeros xs) result }
     {
         for line in lines {
