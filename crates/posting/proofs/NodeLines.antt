@@ -3,7 +3,8 @@
 --     start, starts_ascend      how many lines stand before those of a node
 --     begins_at        a search finds where the lines of a node begin: behind those of the nodes before it
 --     lines_found      from there up to where those of the next node begin stand the node's lines
-use Rattle.std.proofs.Common.{◌≡◌, ℕ, suc, ◌+◌, ◌-◌, ◌<◌, ◌≤◌, true, false, List, [], ◌∷◌, ◌++◌, length, get_or, take, drop, pos, sym, refl, ap, ◌∙◌, ⊎_elim, nat_le, arith}
+--     lines_between    the same of two places that are known to be these
+use Rattle.std.proofs.Common.{◌≡◌, ℕ, suc, ◌+◌, ◌-◌, ◌<◌, ◌≤◌, true, false, List, [], ◌∷◌, ◌++◌, length, get_or, take, drop, pos, sym, refl, ap, ◌∙◌, ap₂, ⊎_elim, nat_le, arith}
 use Rattle.std.specs.List.Sorted.{IsNonDecreasingBy, IsPartitionPoint}
 use Rattle.std.proofs.lemmas.Bool.{leb-true, le-leb, cases_lt}
 use Rattle.std.proofs.lemmas.List.{length-append, length-map, take_all, drop_all, get_or_append_left, get_or-append_right, get_or-map, take-append-drop, length-take, length-take-le, get_or_past}
@@ -108,7 +109,7 @@ module _ (ds : List Lines) where
           let no = behind k (start k) blank (omega arith) (omega arith) in
           absurd (let z : ⊥ = omega (arith, yes, no) in z)) (λ (g : i ≤ start k). let e : i ≡ start k = omega arith in e) (cases_lt (start k) i)
 
-  pub lines_found : (k : ℕ) → take (start (k + 1) - start k) (drop (start k) (flattened 0 ds)) ≡ of_node k (board ds k)
+  lines_found : (k : ℕ) → take (start (k + 1) - start k) (drop (start k) (flattened 0 ds)) ≡ of_node k (board ds k)
   lines_found k = ⊎_elim there past (cases_lt k (length ds))
     where
       there : k < length ds → take (start (k + 1) - start k) (drop (start k) (flattened 0 ds)) ≡ of_node k (board ds k)
@@ -122,3 +123,6 @@ module _ (ds : List Lines) where
           let e : start k ≡ length (flattened 0 ds) = ap (λ t. length (flattened 0 t)) (take_all k ds h) in
           let none : drop (start k) (flattened 0 ds) ≡ [] = drop_all (start k) (flattened 0 ds) (omega (arith, e)) in
           ap (take (start (k + 1) - start k)) none ∙ nothing (start (k + 1) - start k) ∙ sym (ap (of_node k) (get_or_past ds k [] h))
+
+  pub lines_between : (k i j : ℕ) (ls : List ChangeLine) → ls ≡ flattened 0 ds → i ≡ start k → j ≡ start (k + 1) → take (j - i) (drop i ls) ≡ of_node k (board ds k)
+  lines_between k i j ls are from to = ap₂ (λ n t. take (n - i) (drop i t)) to are ∙ ap (λ n. take (start (k + 1) - n) (drop n (flattened 0 ds))) from ∙ lines_found k

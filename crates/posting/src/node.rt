@@ -112,7 +112,8 @@ impl<'a, S: Stock, M: Measure> Posting<'a, S, M> {
         change_of_total(writer, &grouping, below, lines, values)
     }
 
-    // Writes the change of one node of the plan, by its operator; `done` are the lines of the nodes below.
+    // Writes the change of one node of the plan, by its operator; `done` are the lines of the nodes below. Of the nets it reads the
+    // node's own alone, so those of other bases may be missing.
     pub fn change_of_node(
         &self,
         writer: &mut ChangeWriter<S>,
@@ -120,7 +121,7 @@ impl<'a, S: Stock, M: Measure> Posting<'a, S, M> {
         space: &mut WorkSpace<M::Value>,
     ) -> Result<(), NodeFault>
         ensures same { SameTask writer.old writer.new }
-        ensures changed { (ms : List Lines) (net net' : ℕ → Lines) (d : Node) → self.now.plan.now.shown ≡ M.Measure.model.shows → Ready M.Measure.model (nodes_of self.now.plan.now) (widths_of self.now.plan.now) (S.Stock.meaning writer.old.stock.now) (board ms) net net' → self.now.nets.now ≡ flattened 0 ms → writer.old.node < length (nodes_of self.now.plan.now) → LowerNodes (widths_of self.now.plan.now) (S.Stock.meaning writer.old.stock.now) (afresh M.Measure.model (nodes_of self.now.plan.now) net') writer.old.node → done.now ≡ flattened 0 (changes_to (S.Stock.meaning writer.old.stock.now) (afresh M.Measure.model (nodes_of self.now.plan.now) net') writer.old.node) → length done.now ≤ 8192 → Written S.Stock.meaning writer.old [] → NodeChange S.Stock.meaning writer.old writer.new (board (afresh M.Measure.model (nodes_of self.now.plan.now) net') writer.old.node) (groups_fit M.Measure.model (slice_index_or (nodes_of self.now.plan.now) writer.old.node d) (afresh M.Measure.model (nodes_of self.now.plan.now) net')) result }
+        ensures changed { (moves : ℕ → Lines) (ms : List Lines) (net net' : ℕ → Lines) (d : Node) → self.now.plan.now.shown ≡ M.Measure.model.shows → Ready M.Measure.model (nodes_of self.now.plan.now) (widths_of self.now.plan.now) (S.Stock.meaning writer.old.stock.now) moves net net' → self.now.nets.now ≡ flattened 0 ms → board ms writer.old.node ≡ moves writer.old.node → writer.old.node < length (nodes_of self.now.plan.now) → LowerNodes (widths_of self.now.plan.now) (S.Stock.meaning writer.old.stock.now) (afresh M.Measure.model (nodes_of self.now.plan.now) net') writer.old.node → done.now ≡ flattened 0 (changes_to (S.Stock.meaning writer.old.stock.now) (afresh M.Measure.model (nodes_of self.now.plan.now) net') writer.old.node) → length done.now ≤ 8192 → Written S.Stock.meaning writer.old [] → NodeChange S.Stock.meaning writer.old writer.new (board (afresh M.Measure.model (nodes_of self.now.plan.now) net') writer.old.node) (groups_fit M.Measure.model (slice_index_or (nodes_of self.now.plan.now) writer.old.node d) (afresh M.Measure.model (nodes_of self.now.plan.now) net')) result }
     {
         let node = writer.node();
         let Some(operator) = self.plan.node(node as usize) else {

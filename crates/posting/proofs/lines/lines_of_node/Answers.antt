@@ -1,10 +1,10 @@
-use Rattle.std.proofs.Common.{◌≡◌, ◌+◌, ◌-◌, suc, nat_le, List, length, take, drop, sym, ap, ◌∙◌, subst, ap₂, true, false, arith, rules}
+use Rattle.std.proofs.Common.{◌≡◌, ◌+◌, suc, nat_le, List, length, sym, ap, subst, true, false, arith, rules}
 use Rattle.std.specs.List.Sorted.{IsPartitionedBy, IsPartitionPoint}
 use Rattle.std.proofs.lemmas.List.Sorted.{IsPartitionPoint-from_clause, IsPartitionedBy-leb}
 use Rattle.bag.specs.declared.lines.ChangeLine.{ChangeLine}
 use Rattle.bag.specs.Bag.{Lines}
 use Rattle.sheet.specs.Sheets.{flattened}
-use Rattle.posting.proofs.NodeLines.{nodes_ascend, start, starts_ascend, begins_at, lines_found}
+use Rattle.posting.proofs.NodeLines.{nodes_ascend, starts_ascend, begins_at, lines_between}
 use Rattle.posting.proofs.lines.lines_of_node.Goals as goal
 
 pub returns : goal.returns
@@ -18,5 +18,4 @@ returns c = λ (ds : List Lines) (are : c.args.lines.now ≡ flattened 0 ds).
     let a = begins_at ds k c.partition_point-from.result (omega (arith, low, ap length are)) (subst (λ xs. IsPartitionPoint (λ (y : ChangeLine). nat_le (suc y.node) k ≡ true) (λ y. nat_le (suc y.node) k ≡ false) xs c.partition_point-from.result) are from) in
     let b = begins_at ds (k + 1) c.partition_point-to.result (omega (arith, high, ap length are)) (subst (λ xs. IsPartitionPoint (λ (y : ChangeLine). nat_le (suc y.node) (k + 1) ≡ true) (λ y. nat_le (suc y.node) (k + 1) ≡ false) xs c.partition_point-to.result) are to) in
     let up = starts_ascend ds k in
-    let m : c.min.result ≡ start ds k = omega (arith, c.min.ensures, a, b, up) in
-    ap₂ (λ n t. take (n - c.min.result) (drop c.min.result t)) b are ∙ ap (λ i. take (start ds (k + 1) - i) (drop i (flattened 0 ds))) m ∙ lines_found ds k
+    lines_between ds k _ _ c.args.lines.now are (omega (arith, a, b, up)) (omega (arith, a, b, up))

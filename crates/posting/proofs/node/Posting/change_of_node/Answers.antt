@@ -1,5 +1,5 @@
 use Rattle.std.proofs.Common.{◌≡◌, ℕ, ◌+◌, ◌≤◌, true, length, get_or, take, sym, ap, ◌∙◌, subst, ap₂, arith, rules}
-use Rattle.std.proofs.lemmas.List.{length-take}
+use Rattle.std.proofs.lemmas.List.{length-take, take_all}
 use Rattle.bag.specs.Bag.{Lines}
 use Rattle.bag.specs.Operators.{pick, pair, monus, total, all_groups_fit}
 use Rattle.stock.specs.Holding.{shelf_of}
@@ -17,7 +17,7 @@ use Rattle.posting.proofs.node.Posting.change_of_node.Goals as goal
 
 pub returns-in-Base-clause-changed : goal.returns-in-Base-clause-changed
 unfolding board_of
-returns-in-Base-clause-changed g c = λ ms net net' d k ready nets here lower are short empty.
+returns-in-Base-clause-changed g c = λ moves ms net net' d k ready nets same_moves here lower are short empty.
     let M = g.M.Measure.model in
     let h = g.S.Stock.meaning c.args.writer.now.stock.now in
     let p = c.args.self.now.plan.now in
@@ -28,16 +28,17 @@ returns-in-Base-clause-changed g c = λ ms net net' d k ready nets here lower ar
     let ds = changes_to h news n in
     let x = Base c.in-Base.width in
     let planned =
-    at_planned M p h (board ms) net net' n d c.args.done.now k (g.S.Stock.lawful c.args.writer.now.stock.now) ready here lower are short c.node-node.result c.in-Some.operator x c.node-node.ensures c.in-Base.is c.in-Some.ensures.answer c.in-Some.ensures.sound in
+    at_planned M p h moves net net' n d c.args.done.now k (g.S.Stock.lawful c.args.writer.now.stock.now) ready here lower are short c.node-node.result c.in-Some.operator x c.node-node.ensures c.in-Base.is c.in-Some.ensures.answer c.in-Some.ensures.sound in
     let at = planned.0 in
     let base : is_base (get_or xs n d) ≡ true = ap is_base at.node_is in
-    let own : c.lines_of_node.result.now ≡ of_node n (board ms n) = c.lines_of_node.ensures ms nets ∙ ap (λ i. of_node i (board ms i)) c.node-node.ensures in
+    -- a slice of all nets would do as well
+    let own : c.lines_of_node.result.now ≡ of_node n (moves n) = c.lines_of_node.ensures ms (search (rules, nets, take_all)) ∙ ap (λ i. of_node i (board ms i)) c.node-node.ensures ∙ ap (of_node n) same_moves in
     turned at c.args.writer.now c.change_of_base.new.writer c.change_of_base.result
-    (c.change_of_base.ensures.changed ws (net n) (board ms n) (net' n) ds news at.setting empty own (ready.bases n d here base).changes)
+    (c.change_of_base.ensures.changed ws (net n) (moves n) (net' n) ds news at.setting empty own (ready.bases n d here base).changes)
 
 pub returns-in-Keep-clause-changed : goal.returns-in-Keep-clause-changed
 unfolding board_of
-returns-in-Keep-clause-changed g c = λ ms net net' d k ready nets here lower are short empty.
+returns-in-Keep-clause-changed g c = λ moves ms net net' d k ready nets same_moves here lower are short empty.
     let M = g.M.Measure.model in
     let h = g.S.Stock.meaning c.args.writer.now.stock.now in
     let p = c.args.self.now.plan.now in
@@ -48,7 +49,7 @@ returns-in-Keep-clause-changed g c = λ ms net net' d k ready nets here lower ar
     let ds = changes_to h news n in
     let x = Keep c.in-Keep.child c.in-Keep.column c.in-Keep.relation c.in-Keep.operand in
     let planned =
-    at_planned M p h (board ms) net net' n d c.args.done.now k (g.S.Stock.lawful c.args.writer.now.stock.now) ready here lower are short c.node-node.result c.in-Some.operator x c.node-node.ensures c.in-Keep.is c.in-Some.ensures.answer c.in-Some.ensures.sound in
+    at_planned M p h moves net net' n d c.args.done.now k (g.S.Stock.lawful c.args.writer.now.stock.now) ready here lower are short c.node-node.result c.in-Some.operator x c.node-node.ensures c.in-Keep.is c.in-Some.ensures.answer c.in-Some.ensures.sound in
     let at = planned.0 in
     let sound = planned.1 in
     turned at c.args.writer.now c.change_of_kept.new.writer c.change_of_kept.result
@@ -56,7 +57,7 @@ returns-in-Keep-clause-changed g c = λ ms net net' d k ready nets here lower ar
 
 pub returns-in-Pick-clause-changed : goal.returns-in-Pick-clause-changed
 unfolding board_of
-returns-in-Pick-clause-changed g c = λ ms net net' d k ready nets here lower are short empty.
+returns-in-Pick-clause-changed g c = λ moves ms net net' d k ready nets same_moves here lower are short empty.
     let M = g.M.Measure.model in
     let h = g.S.Stock.meaning c.args.writer.now.stock.now in
     let p = c.args.self.now.plan.now in
@@ -67,7 +68,7 @@ returns-in-Pick-clause-changed g c = λ ms net net' d k ready nets here lower ar
     let ds = changes_to h news n in
     let x = Pick c.in-Pick.child c.in-Pick.columns in
     let planned =
-    at_planned M p h (board ms) net net' n d c.args.done.now k (g.S.Stock.lawful c.args.writer.now.stock.now) ready here lower are short c.node-node.result c.in-Some.operator x c.node-node.ensures c.in-Pick.is c.in-Some.ensures.answer c.in-Some.ensures.sound in
+    at_planned M p h moves net net' n d c.args.done.now k (g.S.Stock.lawful c.args.writer.now.stock.now) ready here lower are short c.node-node.result c.in-Some.operator x c.node-node.ensures c.in-Pick.is c.in-Some.ensures.answer c.in-Some.ensures.sound in
     let at = planned.0 in
     let sound = planned.1 in
     let is = take c.in-Pick.columns.count c.in-Pick.columns.places in
@@ -82,7 +83,7 @@ returns-in-Pick-clause-changed g c = λ ms net net' d k ready nets here lower ar
 
 pub returns-in-Pair-clause-changed : goal.returns-in-Pair-clause-changed
 unfolding board_of
-returns-in-Pair-clause-changed g c = λ ms net net' d k ready nets here lower are short empty.
+returns-in-Pair-clause-changed g c = λ moves ms net net' d k ready nets same_moves here lower are short empty.
     let M = g.M.Measure.model in
     let h = g.S.Stock.meaning c.args.writer.now.stock.now in
     let p = c.args.self.now.plan.now in
@@ -93,7 +94,7 @@ returns-in-Pair-clause-changed g c = λ ms net net' d k ready nets here lower ar
     let ds = changes_to h news n in
     let x = Pair c.in-Pair.left c.in-Pair.right c.in-Pair.pairs in
     let planned =
-    at_planned M p h (board ms) net net' n d c.args.done.now k (g.S.Stock.lawful c.args.writer.now.stock.now) ready here lower are short c.node-node.result c.in-Some.operator x c.node-node.ensures c.in-Pair.is c.in-Some.ensures.answer c.in-Some.ensures.sound in
+    at_planned M p h moves net net' n d c.args.done.now k (g.S.Stock.lawful c.args.writer.now.stock.now) ready here lower are short c.node-node.result c.in-Some.operator x c.node-node.ensures c.in-Pair.is c.in-Some.ensures.answer c.in-Some.ensures.sound in
     let at = planned.0 in
     let sound = planned.1 in
     let a = c.side_of-l.result in
@@ -119,7 +120,7 @@ returns-in-Pair-clause-changed g c = λ ms net net' d k ready nets here lower ar
 
 pub returns-in-Both-clause-changed : goal.returns-in-Both-clause-changed
 unfolding board_of
-returns-in-Both-clause-changed g c = λ ms net net' d k ready nets here lower are short empty.
+returns-in-Both-clause-changed g c = λ moves ms net net' d k ready nets same_moves here lower are short empty.
     let M = g.M.Measure.model in
     let h = g.S.Stock.meaning c.args.writer.now.stock.now in
     let p = c.args.self.now.plan.now in
@@ -130,7 +131,7 @@ returns-in-Both-clause-changed g c = λ ms net net' d k ready nets here lower ar
     let ds = changes_to h news n in
     let x = Both c.in-Both.left c.in-Both.right in
     let planned =
-    at_planned M p h (board ms) net net' n d c.args.done.now k (g.S.Stock.lawful c.args.writer.now.stock.now) ready here lower are short c.node-node.result c.in-Some.operator x c.node-node.ensures c.in-Both.is c.in-Some.ensures.answer c.in-Some.ensures.sound in
+    at_planned M p h moves net net' n d c.args.done.now k (g.S.Stock.lawful c.args.writer.now.stock.now) ready here lower are short c.node-node.result c.in-Some.operator x c.node-node.ensures c.in-Both.is c.in-Some.ensures.answer c.in-Some.ensures.sound in
     let at = planned.0 in
     let sound = planned.1 in
     let l = at.lines c.in-Both.left c.lines_of_node-l.result.now (c.lines_of_node-l.ensures ds are) in
@@ -140,7 +141,7 @@ returns-in-Both-clause-changed g c = λ ms net net' d k ready nets here lower ar
 
 pub returns-in-Less-clause-changed : goal.returns-in-Less-clause-changed
 unfolding board_of
-returns-in-Less-clause-changed g c = λ ms net net' d k ready nets here lower are short empty.
+returns-in-Less-clause-changed g c = λ moves ms net net' d k ready nets same_moves here lower are short empty.
     let M = g.M.Measure.model in
     let h = g.S.Stock.meaning c.args.writer.now.stock.now in
     let p = c.args.self.now.plan.now in
@@ -151,7 +152,7 @@ returns-in-Less-clause-changed g c = λ ms net net' d k ready nets here lower ar
     let ds = changes_to h news n in
     let x = Less c.in-Less.left c.in-Less.right in
     let planned =
-    at_planned M p h (board ms) net net' n d c.args.done.now k (g.S.Stock.lawful c.args.writer.now.stock.now) ready here lower are short c.node-node.result c.in-Some.operator x c.node-node.ensures c.in-Less.is c.in-Some.ensures.answer c.in-Some.ensures.sound in
+    at_planned M p h moves net net' n d c.args.done.now k (g.S.Stock.lawful c.args.writer.now.stock.now) ready here lower are short c.node-node.result c.in-Some.operator x c.node-node.ensures c.in-Less.is c.in-Some.ensures.answer c.in-Some.ensures.sound in
     let at = planned.0 in
     let sound = planned.1 in
     let a = c.side_of_less-l.result in
@@ -170,7 +171,7 @@ returns-in-Less-clause-changed g c = λ ms net net' d k ready nets here lower ar
 
 pub returns-in-Total-clause-changed : goal.returns-in-Total-clause-changed
 unfolding board_of
-returns-in-Total-clause-changed g c = λ ms net net' d k ready nets here lower are short empty.
+returns-in-Total-clause-changed g c = λ moves ms net net' d k ready nets same_moves here lower are short empty.
     let M = g.M.Measure.model in
     let h = g.S.Stock.meaning c.args.writer.now.stock.now in
     let p = c.args.self.now.plan.now in
@@ -181,7 +182,7 @@ returns-in-Total-clause-changed g c = λ ms net net' d k ready nets here lower a
     let ds = changes_to h news n in
     let x = Total c.in-Total.child c.in-Total.measured c.in-Total.columns in
     let planned =
-    at_planned M p h (board ms) net net' n d c.args.done.now k (g.S.Stock.lawful c.args.writer.now.stock.now) ready here lower are short c.node-node.result c.in-Some.operator x c.node-node.ensures c.in-Total.is c.in-Some.ensures.answer c.in-Some.ensures.sound in
+    at_planned M p h moves net net' n d c.args.done.now k (g.S.Stock.lawful c.args.writer.now.stock.now) ready here lower are short c.node-node.result c.in-Some.operator x c.node-node.ensures c.in-Total.is c.in-Some.ensures.answer c.in-Some.ensures.sound in
     let at = planned.0 in
     let sound = planned.1 in
     let is = take c.in-Total.columns.count c.in-Total.columns.places in
