@@ -132,7 +132,8 @@ impl PendingLines {
     {
         let len = self.len;
         let change = more.wrapping_add(self.lines[place].change);
-        if change != 0 {
+        let stays = change != 0;
+        if stays {
             self.lines[place].change = change;
             return;
         }

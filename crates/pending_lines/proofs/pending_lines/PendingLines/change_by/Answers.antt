@@ -18,10 +18,10 @@ invariant_of-self c =
     let p = c.args.self.now in
     let front = length-take p.len p.lines in
     let pre = c.requires in
-    record { few = p.few; in_order = kept_canonical p.lines p.len c.args.place past (omega (arith, front, pre)) (omega (arith, p.few)) _ (some_bits _ (search rules) c.if-change-ne0.true) p.in_order }
+    record { few = p.few; in_order = kept_canonical p.lines p.len c.args.place past (omega (arith, front, pre)) (omega (arith, p.few)) _ (some_bits _ (search rules) c.if-stays.true) p.in_order }
 
-pub returns-then-change-ne0 : goal.returns-then-change-ne0
-returns-then-change-ne0 c =
+pub returns-then-stays : goal.returns-then-stays
+returns-then-stays c =
     let p = c.args.self.now in
     let i = c.args.place in
     let more = c.args.more in
@@ -32,7 +32,7 @@ returns-then-change-ne0 c =
     record {
       after = λ (h : SFits w32 (more +ℤ (get_or (changes_of p) i no_line).1)).
           let sum = sum_made p.lines p.len i past (omega (arith, front, pre)) (omega (arith, p.few)) more f g h in
-          kept p.lines p.len i past (omega (arith, front, pre)) (omega (arith, p.few)) more _ sum (some_bits _ (search rules) c.if-change-ne0.true);
+          kept p.lines p.len i past (omega (arith, front, pre)) (omega (arith, p.few)) more _ sum (some_bits _ (search rules) c.if-stays.true);
     }
 
 left : (c : goal.After-blank) → let p = c.args.self.now in take (p.len - 1) (set c.copy_within.new.self (p.len - 1) c.blank.result) ≡ take c.args.place (take p.len p.lines) ++ drop (suc c.args.place) (take p.len p.lines)
@@ -71,5 +71,5 @@ returns c =
     record {
       after = λ (h : SFits w32 (more +ℤ (get_or (changes_of p) i no_line).1)).
           let sum = sum_made p.lines p.len i past (omega (arith, front, pre)) (omega (arith, p.few)) more f g h in
-          gone p.lines p.len i blank_change_line (omega (arith, front, pre)) (omega (arith, p.few)) _ (left c.before) more (ap is_zero (sym sum ∙ ap (to_z w32) c.if-change-ne0.false));
+          gone p.lines p.len i blank_change_line (omega (arith, front, pre)) (omega (arith, p.few)) _ (left c.before) more (ap is_zero (sym sum ∙ ap (to_z w32) c.if-stays.false));
     }
