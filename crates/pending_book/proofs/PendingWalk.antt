@@ -3,6 +3,7 @@
 --     walk_end         no candidate, no next row
 --     walk_found       a candidate with copies is the next row
 --     walk_on          a candidate without copies is passed over
+--     rows_after_short fewer or as many pending lines are after a row as there are
 --     walk_shorter     and then fewer pending lines are left
 use Rattle.std.proofs.Common.{◌≡◌, ℕ, suc, ◌≤◌, false, [], ◌∷◌, length, ℤ, pos, ◌+ℤ◌, Some, None, Option, Ordering, Less, Equal, Greater, sym, refl, ap, ◌∙◌, subst, inl, inr, ⊎_elim, arith}
 use Rattle.std.proofs.lemmas.Int.{ints}
@@ -66,7 +67,7 @@ module _ (xs : Lines) (c : Canonical xs) (f g : Row → ℤ) (sums : (q : Row) �
       (λ (k : is_zero (g p) ≡ false). not_zero (g p) k n)
       h.1
 
-rows_after_short : (ys : Lines) (b : Row) → length (rows_after ys b) ≤ length ys
+pub rows_after_short : (ys : Lines) (b : Row) → length (rows_after ys b) ≤ length ys
 unfolding rows_after
 rows_after_short [] b = omega arith
 rows_after_short (e ∷ ys) b = by (row_order b e.0) (rows_after_short ys b)

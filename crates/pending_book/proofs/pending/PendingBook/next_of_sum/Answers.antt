@@ -1,18 +1,18 @@
 use Rattle.std.proofs.Common.{◌≡◌, ℕ, zero, suc, ◌<◌, ◌≤◌, false, [], ℤ, pos, ◌+ℤ◌, Some, Option, sym, refl, ap, ◌∙◌, arith}
-use Rattle.std.proofs.lemmas.List.{get_or_past}
+use Rattle.std.proofs.lemmas.List.{get_or_past, length-map, length-take}
 use Rattle.std.specs.Option.{option_map}
 use Rattle.bag.specs.Order.{Row}
 use Rattle.bag.specs.Bag.{Lines, is_zero, count, next}
 use Rattle.stock.specs.declared.stock.Stock.{Ghosts}
 use Rattle.stock.specs.Holding.{shelf_of, copies, row_and_count}
-use Rattle.settling.specs.Keys.{key}
+use Rattle.settling.specs.Keys.{key, keyed}
 use Rattle.settling.proofs.KeyOrder.{key_same}
 use Rattle.settling.proofs.HoldingCounts.{copies_are}
 use Rattle.pending_lines.specs.PendingLines.{held, changes_of, count_at}
 use Rattle.pending_book.specs.declared.pending.PendingBook.{PendingBook}
 use Rattle.pending_book.specs.PendingBook.{meaning_of}
 use Rattle.pending_book.proofs.PendingSum.{count_sum}
-use Rattle.pending_book.proofs.PendingWalk.{walk_end, walk_found, walk_on, walk_shorter, cancelled}
+use Rattle.pending_book.proofs.PendingWalk.{walk_end, walk_found, walk_on, rows_after_short, walk_shorter, cancelled}
 use Rattle.pending_book.proofs.pending.PendingBook.next_of_sum.Goals as goal
 
 some-count : (z : ℤ) (n : ℕ) → pos n ≡ z → 0 < n → is_zero z ≡ false
@@ -38,8 +38,14 @@ returns-then-shelf-gt-LAST_SHELF g c =
     let past : shelf_of (meaning_of b) c.args.shelf ≡ [] = get_or_past (meaning_of b).shelves c.args.shelf [] (omega (arith, six)) in
     record { answer = sym (ap (λ (xs : Lines). option_map row_and_count (next xs c.args.row.now)) past) }
 
-pub loop-found-init : goal.loop-found-init
-loop-found-init g c = refl
+pub loop-turn-init : goal.loop-turn-init
+loop-turn-init g c =
+    let b = c.args.self.now in
+    let few = b.pending.few in
+    let long = length-map (held b.pending) keyed in
+    let front = length-take b.pending.len b.pending.lines in
+    let start = rows_after_short (changes_of b.pending) (key c.args.shelf c.args.row.now) in
+    (refl {a = next (shelf_of (meaning_of b) c.args.shelf) c.args.row.now}, omega (arith, few, long, front, start))
 
 pub returns-then-n-gt0 : goal.returns-then-n-gt0
 returns-then-n-gt0 g c =
@@ -48,50 +54,47 @@ returns-then-n-gt0 g c =
     let s = c.args.shelf in
     let low : s ≤ 15 = omega arith in
     let xs = shelf_of (meaning_of b) s in
-    let p = c.in-Some.found in
+    let p = c.in_ok-found.found in
     let n = c.sum_at-n.ensures in
     let are = copies_are (meaning_of b) b.lawful s p in
     let some = some-count (count xs p) c.sum_at-n.result (ap pos n ∙ are) c.if-n-gt0.true in
-    let found = c.loop-found.invariant ∙ walk_found xs (b.lawful.bags s).0 (below stock b s low) (change stock b s low) (sums stock b s low) c.loop-found.at p (c.in-Some.ensures.answer low) some in
+    let found = c.loop-turn.invariant.0 ∙ walk_found xs (b.lawful.bags s).0 (below stock b s low) (change stock b s low) (sums stock b s low) c.loop-turn.at p (c.in_ok-found.ensures.answer low) some in
     let pair : ℕ → Option (Row × ℕ) = λ m. Some (p, m) in
     record { answer = ap pair n ∙ sym (ap (option_map row_and_count) found) }
 
-pub loop-found-smaller : goal.loop-found-smaller
-loop-found-smaller g c =
+pub loop-turn-preserved : goal.loop-turn-preserved
+loop-turn-preserved g c =
     let stock = g.S.Stock in
     let b = c.args.self.now in
     let s = c.args.shelf in
     let low : s ≤ 15 = omega arith in
     let xs = shelf_of (meaning_of b) s in
-    let p = c.in-Some.found in
-    let at = c.loop-found.at in
-    let h = c.in-Some.ensures.answer low in
+    let f = below stock b s low in
+    let k = change stock b s low in
+    let sum = sums stock b s low in
+    let at = c.loop-turn.at in
+    let p = c.in_ok-found.found in
+    let h = c.in_ok-found.ensures.answer low in
     let n = c.sum_at-n.ensures in
     let left = c.if-n-gt0.false in
     let are = copies_are (meaning_of b) b.lawful s p in
     let none : count xs p ≡ pos 0 = sym are ∙ ap pos (let m : copies (meaning_of b) s p ≡ 0 = omega (arith, n, left) in m) in
-    let shorter = walk_shorter (changes_of b.pending) (key s at) (key s p) b.pending.in_order (key_same s at p ∙ h.0) (cancelled xs (b.lawful.bags s).0 (below stock b s low) (change stock b s low) (sums stock b s low) at p h none) in
-    omega (arith, shorter)
+    let before = c.loop-turn.invariant.1 in
+    let shorter = walk_shorter (changes_of b.pending) (key s at) (key s p) b.pending.in_order (key_same s at p ∙ h.0) (cancelled xs (b.lawful.bags s).0 f k sum at p h none) in
+    (c.loop-turn.invariant.0 ∙ walk_on xs (b.lawful.bags s).0 f k sum at p h none, omega (arith, before, shorter))
 
-pub loop-found-preserved : goal.loop-found-preserved
-loop-found-preserved g c =
+pub returns-in_err-found : goal.returns-in_err-found
+returns-in_err-found g c =
     let stock = g.S.Stock in
     let b = c.args.self.now in
     let s = c.args.shelf in
     let low : s ≤ 15 = omega arith in
     let xs = shelf_of (meaning_of b) s in
-    let p = c.in-Some.found in
-    let n = c.sum_at-n.ensures in
-    let left = c.if-n-gt0.false in
-    let are = copies_are (meaning_of b) b.lawful s p in
-    let none : count xs p ≡ pos 0 = sym are ∙ ap pos (let m : copies (meaning_of b) s p ≡ 0 = omega (arith, n, left) in m) in
-    c.loop-found.invariant ∙ walk_on xs (b.lawful.bags s).0 (below stock b s low) (change stock b s low) (sums stock b s low) c.loop-found.at p (c.in-Some.ensures.answer low) none
+    let h = c.in_err-found.ensures.answer low in
+    record { answer = c.from_residual.ensures ∙ sym (ap (option_map row_and_count) (c.loop-turn.invariant.0 ∙ walk_end xs (b.lawful.bags s).0 (below stock b s low) (change stock b s low) (sums stock b s low) c.loop-turn.at h)) }
 
 pub returns : goal.returns
 returns g c =
-    let stock = g.S.Stock in
-    let b = c.args.self.now in
-    let s = c.args.shelf in
-    let low : s ≤ 15 = omega arith in
-    let xs = shelf_of (meaning_of b) s in
-    record { answer = sym (ap (option_map row_and_count) (c.loop-found.invariant ∙ walk_end xs (b.lawful.bags s).0 (below stock b s low) (change stock b s low) (sums stock b s low) c.loop-found.at (c.in_default.ensures.answer low))) }
+    let out = c.loop-turn-test.false in
+    let few = c.loop-turn.invariant.1 in
+    record { answer = absurd (let z : ⊥ = omega (arith, few, out) in z) }

@@ -1,7 +1,7 @@
-use Rattle.std.proofs.Common.{◌≡◌, ◌+◌, ◌<◌, ◌≤◌, false, ℤ, pos, Err, Result, sym, ap, ◌∙◌, subst, arith, rules}
+use Rattle.std.proofs.Common.{◌≡◌, ◌+◌, ◌<◌, ◌≤◌, false, ℤ, pos, Result, sym, ap, ◌∙◌, subst, arith, rules}
 use Rattle.bag.specs.declared.lines.ChangeLine.{ChangeLine}
-use Rattle.bag.specs.Refusal.{Refusal, refusal, left_by}
-use Rattle.stock.specs.Holding.{lines_of, with_copies, lacks_room, put_answer}
+use Rattle.bag.specs.Refusal.{Refusal, left_by}
+use Rattle.stock.specs.Holding.{lines_of, with_copies, lacks_room}
 use Rattle.settling.proofs.Moving.{accepted_put}
 use Rattle.pending_lines.specs.PendingLines.{held}
 use Rattle.pending_book.specs.Sums.{with_change_of, gain_of, Accepts}
@@ -23,8 +23,8 @@ returns-then-n-eq0-clause-after g c =
     sym (accepted_put M s r n (omega arith) (omega (arith, is)) (room_none M s r n none) ∙ ap (λ m. with_copies M s r (pos m)) none ∙ no_copies M s r b.lawful)
 
 -- a line too many is refused
-refused : (g : _) (c : goal.Then-lines-capacity g) → Err (refusal 9 c.capacity-capacity.result) ≡ put_answer (meaning_of c.args.self.now) c.args.shelf c.args.row.now c.args.n
-refused g c =
+pub returns-then-lines-capacity-clause-answer : goal.returns-then-lines-capacity-clause-answer
+returns-then-lines-capacity-clause-answer g c =
     let b = c.args.self.now in
     let M = meaning_of b in
     let s = c.args.shelf in
@@ -37,11 +37,8 @@ refused g c =
     let lacking = room_lacking M s r n (omega arith) (omega (arith, is)) (omega (arith, room, counted, cap)) in
     full_answer M s r n c.capacity-capacity.result (omega arith) (omega (arith, is)) lacking cap
 
-pub returns-then-lines-capacity-clause-answer : goal.returns-then-lines-capacity-clause-answer
-returns-then-lines-capacity-clause-answer g c = refused g c
-
 pub returns-then-lines-capacity-clause-after : goal.returns-then-lines-capacity-clause-after
-returns-then-lines-capacity-clause-after g c = ap (λ (a : Result (Unit {0}) Refusal). left_by a (meaning_of c.args.self.now) (with_copies (meaning_of c.args.self.now) c.args.shelf c.args.row.now (pos c.args.n))) (refused g c)
+returns-then-lines-capacity-clause-after g c = ap (λ (a : Result (Unit {0}) Refusal). left_by a (meaning_of c.args.self.now) (with_copies (meaning_of c.args.self.now) c.args.shelf c.args.row.now (pos c.args.n))) (returns-then-lines-capacity-clause-answer g c)
 
 -- what is noted
 line : (g : _) (c : goal.After-note-arg-2-1 g) → c.change_line.result ≡ gain_of c.args.shelf c.args.row.now c.args.n
