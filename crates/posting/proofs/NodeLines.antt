@@ -109,7 +109,7 @@ module _ (ds : List Lines) where
           let no = behind k (start k) blank (omega arith) (omega arith) in
           absurd (let z : ⊥ = omega (arith, yes, no) in z)) (λ (g : i ≤ start k). let e : i ≡ start k = omega arith in e) (cases_lt (start k) i)
 
-  lines_found : (k : ℕ) → take (start (k + 1) - start k) (drop (start k) (flattened 0 ds)) ≡ of_node k (board ds k)
+  pub lines_found : (k : ℕ) → take (start (k + 1) - start k) (drop (start k) (flattened 0 ds)) ≡ of_node k (board ds k)
   lines_found k = ⊎_elim there past (cases_lt k (length ds))
     where
       there : k < length ds → take (start (k + 1) - start k) (drop (start k) (flattened 0 ds)) ≡ of_node k (board ds k)
