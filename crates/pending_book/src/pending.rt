@@ -154,7 +154,7 @@ impl<S: Stock> PendingBook<S> {
             return None;
         }
         let mut at = *row;
-        // Each turn leaves a pending line behind, so 64 pending lines end it at the 65th turn; a bound that is one too small is refused.
+        // Each turn leaves a pending line behind, so 64 pending lines end it at the 65th turn.
         for _turn in 0..65usize {
             let found = self.candidate(shelf, &at)?;
             let n = self.sum_at(shelf, &found);
