@@ -4,7 +4,7 @@ use Rattle.std.proofs.lemmas.Result.{err_from_is_err_and}
 use Rattle.message.specs.Refusal.{read_refusal}
 use Rattle.message.specs.Reading.{records_of}
 use Rattle.message.proofs.Readings.{onward, read_one, read_none, read_fault, records_end, records_refused, records_item}
-use Rattle.message.proofs.Listings.{prefixed, prefixed_more}
+use Rattle.message.proofs.Listings.{prefixed, prefixed_more, one_more, put_there}
 use Rattle.message.proofs.record_list.RecordList.read.Goals as goal
 
 pub returns-in_err-record : goal.returns-in_err-record
@@ -37,7 +37,7 @@ loop-record-preserved c =
     let next = onward m c.next.new.self.at (length rs + 1) in
     let e : prefixed rs (records_of (onward m s.at (length rs))) ≡ prefixed (rs ++ r ∷ []) (records_of next) =
     ap (λ x. prefixed rs (records_of x)) v.rest ∙ (ap (prefixed rs) (records_item s.at r next) ∙ prefixed_more rs r (records_of next)) in
-    rw (c.push.ensures.len, c.push.ensures.items) (v.counted, c.next.ensures.same ∙ i.1, sym e ∙ i.2)
+    one_more c.next.new.self.at rs r (search put_there) v.counted (c.next.ensures.same ∙ i.1) (sym e ∙ i.2)
 
 pub returns : goal.returns
 returns c =
