@@ -1,20 +1,16 @@
 -- What the two passes over the lines find, in words of the lines. Assumes nothing.
 --     place_is_position     the first line of a row on a shelf stands at its place
---     picked_by_order       `min_by` with a closure that compares by `key` keeps the lesser item of each two
-use Rattle.std.proofs.Common.{◌≡◌, ℕ, suc, ◌+◌, Bool, true, false, cond, List, [], ◌∷◌, map, Some, None, Option, Ordering, refl, ap, ◌∙◌, subst, arith}
-use Rattle.std.specs.Fn.{CalledAtTwo}
-use Rattle.std.specs.List.{position, position_from, FoldsTo, reduce}
-use Rattle.std.specs.Option.{option_map}
-use Rattle.std.specs.Ordering.{min_by_ordering}
-use Rattle.std.specs.Iterator.{PickTurn, PicksByCall}
-use Rattle.std.proofs.lemmas.Iterator.{YieldsList}
+--     kept_then_read        the lines after a row may be kept before they are read
+--     nearer_yet o l        the nearer of the nearest line so far, if there is one, and the next line
+--     fold_is_reduce        a pass that begins with no line and keeps the nearer of each two ends with the nearest
+use Rattle.std.proofs.Common.{◌≡◌, ℕ, suc, ◌+◌, Bool, true, false, cond, List, [], ◌∷◌, map, Some, None, Option, refl, ap, ◌∙◌, arith}
+use Rattle.std.specs.List.{position, position_from, fold, filter, reduce}
+use Rattle.std.specs.Option.{option_map, option_map_or}
 use Rattle.std.proofs.lemmas.Iterator.Adapters.{position_from-zero}
-use Rattle.std.proofs.lemmas.Iterator.Consumers.{reduce_from_yields_List}
-use denote.Param.Members.{Mut}
-use denote.Ref.{Bor}
 use Rattle.bag.specs.Order.{Row}
+use Rattle.bag.specs.declared.lines.StockLine.{StockLine}
 use Rattle.byte_stock.specs.ByteLines.{line_in}
-use Rattle.byte_stock.specs.ByteStored.{has_key, place_of}
+use Rattle.byte_stock.specs.ByteStored.{Stored, has_key, comes_after, place_of, nearer}
 
 later : (i : ℕ) (o : Option ℕ) → option_map (λ n. i + 1 + n) o ≡ option_map (λ n. i + n) (option_map suc o)
 later i None = refl
@@ -38,13 +34,24 @@ module _ (s : ℕ) (r : Row) where
   pub place_is_position : (cs : List (List ℕ)) → position (λ c. has_key s r (line_in c)) cs ≡ place_of s r (map line_in cs)
   place_is_position cs = position_from-zero (λ c. has_key s r (line_in c)) cs ∙ place_from 0 cs ∙ from_start (place_of s r (map line_in cs))
 
-module _ {A F : Type 0} {g : Mut F (Bor A × (Bor A × Unit {0})) Ordering} {f : F} (key : A → A → Ordering) (each : (a b : A) (o : Ordering) (q : F) → CalledAtTwo g f a b o q → (q ≡ f) × (o ≡ key a b)) where
-  turns : (xs : List A) (p q : F × A) → p.0 ≡ f → FoldsTo {P = F × A} (PickTurn min_by_ordering g) p xs q → FoldsTo (λ a x c. c ≡ min_by_ordering (key a x) a x) p.1 xs q.1
-  turns [] p q e h = ap (λ w. w.1) h
-  turns (x ∷ xs) p q e h =
-      let told = each p.1 x h.1.0 h.0.0 (subst (λ w. CalledAtTwo g w p.1 x h.1.0 h.0.0) e h.1.1) in
-      (h.0.1, h.1.2 ∙ ap (λ o. min_by_ordering o p.1 x) told.1, turns xs h.0 q told.0 h.2)
+  pub kept_then_read : (cs : List (List ℕ)) → map line_in (filter (λ c. comes_after s r (line_in c)) cs) ≡ filter (comes_after s r) (map line_in cs)
+  kept_then_read [] = refl
+  kept_then_read (c ∷ cs) = by (comes_after s r (line_in c)) (kept_then_read cs)
+    where
+      on : List (List ℕ)
+      on = filter (λ c. comes_after s r (line_in c)) cs
 
-  pub picked_by_order : {S : Type 0} {steps : S → Option A → S → Type 0} (s : S) (r : Option A) (all : List A) → PicksByCall steps min_by_ordering g s f r → YieldsList steps (λ x. x) s all → r ≡ reduce (λ a b. min_by_ordering (key a b) a b) all
-  picked_by_order s None all h road = reduce_from_yields_List (λ a b. min_by_ordering (key a b) a b) s None h road
-  picked_by_order s (Some y) all h road = reduce_from_yields_List (λ a b. min_by_ordering (key a b) a b) s (Some y) (h.0, h.1, h.3, turns h.1 (f, h.0) (h.2, y) refl h.4) road
+      by : (b : Bool) → map line_in on ≡ filter (comes_after s r) (map line_in cs) → map line_in (cond b (c ∷ on) on) ≡ cond b (line_in c ∷ filter (comes_after s r) (map line_in cs)) (filter (comes_after s r) (map line_in cs))
+      by true ih = ap (λ ls. line_in c ∷ ls) ih
+      by false ih = ih
+
+abbrev pub nearer_yet : Option StockLine → StockLine → StockLine
+nearer_yet o l = option_map_or (λ k. nearer k l) o l
+
+begun : (k : StockLine) (ls : Stored) → fold (λ o l. Some (nearer_yet o l)) (Some k) ls ≡ Some (fold nearer k ls)
+begun k [] = refl
+begun k (l ∷ ls) = begun (nearer k l) ls
+
+pub fold_is_reduce : (ls : Stored) → fold (λ o l. Some (nearer_yet o l)) None ls ≡ reduce nearer ls
+fold_is_reduce [] = refl
+fold_is_reduce (l ∷ ls) = begun l ls

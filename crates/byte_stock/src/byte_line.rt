@@ -9,6 +9,9 @@ pub(crate) const LINE_LEN: usize = 35;
 
 const COLUMN_LEN: usize = 4;
 
+// The byte of a line that its shelf stands in.
+pub(crate) const SHELF_AT: usize = 0;
+
 const COLUMNS_AT: usize = 1;
 
 const COUNT_AT: usize = 33;
@@ -20,7 +23,7 @@ pub(crate) fn read_line(bytes: &[u8; LINE_LEN]) -> StockLine
     let (columns, count) = bytes[COLUMNS_AT..].as_chunks::<COLUMN_LEN>();
     let row = from_fn(|k| i32::from_be_bytes(columns[k]));
     StockLine {
-        shelf: bytes[0],
+        shelf: bytes[SHELF_AT],
         row,
         count: u16::from_be_bytes([count[0], count[1]]),
     }
@@ -31,7 +34,7 @@ pub(crate) fn line_bytes(line: &StockLine) -> [u8; LINE_LEN]
     ensures { result ≡ line_bytes line.now }
 {
     let mut bytes = [0; LINE_LEN];
-    bytes[0] = line.shelf;
+    bytes[SHELF_AT] = line.shelf;
     // by places: `as_chunks_mut` does not promise what the slice ends as
     for (k, column) in line.row.iter().enumerate() {
         let at = COLUMNS_AT + COLUMN_LEN * k;
