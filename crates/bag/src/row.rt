@@ -7,6 +7,7 @@ use std::cmp::Ordering;
 pub type Row = [i32; 8];
 
 // Which of two rows comes first: column 0 decides, then column 1, and so on.
+#[tactic(auto, unfolding(crate::specs::Order::row_order))]
 pub fn compare_rows(a: &Row, b: &Row) -> Ordering
     ensures { result ≡ row_order a.now b.now }
 {

@@ -11,12 +11,13 @@ abbrev pub rest_of : List ℕ → List ℕ
 rest_of input = take (length input - 2) (drop 2 input)
 
 module _ (input : List ℕ) (n : ℕ) (two : 2 ≤ length input) (e : n ≡ get_or input 0 0 * 256 + get_or input 1 0) where
-  pub framed_whole : (front back : List ℕ) → n ≤ length (rest_of input) → front ≡ take n (rest_of input) → back ≡ drop n (rest_of input) → framed input ≡ Some (front, back)
-  framed_whole front back l f b =
+  -- `k` is where the bytes behind the length are cut
+  pub framed_whole : {k : ℕ} (front back : List ℕ) → k ≤ length (rest_of input) → front ≡ take k (rest_of input) → back ≡ drop k (rest_of input) → k ≡ n → framed input ≡ Some (front, back)
+  framed_whole front back l f b is =
       let r = take_rest input 2 in
-      let l' : n ≤ length (drop 2 input) = rw r at l in
-      let f' : front ≡ take n (drop 2 input) = rw r at f in
-      let b' : back ≡ drop n (drop 2 input) = rw r at b in
+      let l' : n ≤ length (drop 2 input) = rw (r, is) at l in
+      let f' : front ≡ take n (drop 2 input) = rw (r, is) at f in
+      let b' : back ≡ drop n (drop 2 input) = rw (r, is) at b in
       rw (first_two_is input two, ← e, le-ltb (length (drop 2 input)) n l', f', b') refl
 
   pub framed_torn : length (rest_of input) < n → framed input ≡ None
